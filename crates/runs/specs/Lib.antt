@@ -1,0 +1,5 @@
+pub mod Rules
+pub mod Past
+pub mod Checks
+pub mod Books
+pub mod Law
