@@ -1,2 +1,4 @@
+pub mod Calls
+pub mod Fated
 pub mod Steps
 pub mod Walks

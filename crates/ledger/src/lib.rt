@@ -1,5 +1,6 @@
 //! The ledger: it takes requests, drops those that a later one supersedes, and counts the others.
 mod answer;
+mod notice;
 mod opening;
 mod state;
 mod sweep;
