@@ -1,6 +1,7 @@
 //! The ledger: it takes requests, drops those that a later one supersedes, and counts the others.
 mod answer;
 mod notice;
+mod offer;
 mod opening;
 mod state;
 mod sweep;
