@@ -3,6 +3,7 @@ mod answer;
 mod notice;
 mod offer;
 mod opening;
+mod settling;
 mod state;
 mod sweep;
 
