@@ -1,4 +1,0 @@
-pub mod Calendar
-pub mod Layouts
-pub mod Periods
-pub mod Places
