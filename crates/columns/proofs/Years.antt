@@ -1,0 +1,1 @@
+-- The headings of a year scheme.

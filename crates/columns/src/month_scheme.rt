@@ -1,0 +1,92 @@
+//! Columns by month of the request.
+ghost use mathlib.Core.List.{[]};
+ghost use mathlib.Core.Path.{_≡_};
+ghost use Prim.Native.Nat.{ℕ, _<_, _≤_};
+ghost use lib.ListN.{getD};
+ghost use Rattle.std.specs.Results.{Cases};
+ghost use Rattle.std.specs.declared.option.Option.the-variants.{None, Some};
+ghost use Rattle.columns.specs.Calendar.{names};
+ghost use Rattle.columns.specs.Layouts.{monthHeading, monthLayout};
+ghost use Rattle.columns.specs.Periods.{monthRefusal, refusalNumber};
+ghost use Rattle.columns.specs.Places.{MonthColumn, monthPlace};
+use crate::calendar::NAMES;
+use crate::calendar::month_of;
+use crate::calendar::year_digits;
+use crate::period::PeriodRefusal;
+use crate::scheme::ColumnScheme;
+use records::Request;
+
+/// A column for each month of a year, from January to a last month.
+///
+/// The headings of all twelve months are kept, so that they can be lent.
+#[derive(Clone, Copy)]
+pub struct MonthScheme {
+    year: u16,
+    months: usize,
+    headings: [[u8; 8]; 12],
+    ghost known: { (2000 ≤ year) × (year ≤ 2099) },
+    ghost some: { (1 ≤ months) × (months ≤ 12) },
+    ghost written: { (m : ℕ) → m < 12 → getD headings m [] ≡ monthHeading year (getD names m []) },
+}
+
+impl MonthScheme {
+    /// The months from January to `last_month`, which counts from 1, of a year of 2000 to 2099.
+    pub fn new(year: u16, last_month: usize) -> Result<MonthScheme, PeriodRefusal>
+        ensures { λ r. ⌜ Cases r (λ s. (monthRefusal year «last_month» ≡ None) × (s .year ≡ year) × (s .months ≡ «last_month»)) (λ e. (monthRefusal year «last_month» ≡ Some e) × (refusalNumber e ≡ 9)) ⌝ }
+    {
+        if year < 2000 || year > 2099 {
+            return Err(PeriodRefusal::Year);
+        }
+        if last_month < 1 || last_month > 12 {
+            return Err(PeriodRefusal::LastMonth);
+        }
+        Ok(MonthScheme { year, months: last_month, headings: month_headings(year) })
+    }
+}
+
+/// The headings of all months of a year.
+fn month_headings(year: u16) -> [[u8; 8]; 12]
+    ensures { λ r. ⌜ ((m : ℕ) → m < 12 → getD r m [] ≡ monthHeading year (getD names m [])) ⌝ }
+{
+    let [y, c, d, u] = year_digits(year);
+    let mut headings = [[0; 8]; 12];
+    for month in 0..12 {
+        let [first, second, third] = NAMES[month];
+        headings[month] = [first, second, third, b'-', y, c, d, u];
+    }
+    headings
+}
+
+pub impl ColumnScheme for MonthScheme as MonthColumns {
+    ghost layout = { λ s. monthLayout (s .year) (s .months) };
+
+    ghost place = { λ s r. monthPlace (s .year) (s .months) r };
+
+    fn columns(&self) -> usize {
+        self.months
+    }
+
+    fn heading(&self, column: usize) -> Option<&[u8]> {
+        if column < self.months { Some(&self.headings[column]) } else { None }
+    }
+
+    fn report(&self) -> &[u8] {
+        b"Journal Report 1(R3)"
+    }
+
+    fn description(&self) -> &[u8] {
+        b"Number of Successful Full-text Article Requests by Month and Journal"
+    }
+
+    fn has_ytd(&self) -> bool {
+        true
+    }
+
+    fn column(&self, request: &Request) -> Option<usize>
+        ensures place { λ c. ⌜ c ≡ monthPlace (now (self .entry) .year) (now (self .entry) .months) (now (request .entry)) ⌝ }
+        ensures month { λ c. ⌜ MonthColumn (now (self .entry) .year) (now (self .entry) .months) (now (request .entry)) c ⌝ }
+    {
+        let date = month_of(request.time)?;
+        if date.year == self.year && date.month < self.months { Some(date.month) } else { None }
+    }
+}
