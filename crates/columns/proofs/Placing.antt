@@ -7,7 +7,7 @@ use Prim.Native.Nat.{ℕ, zero, suc, _+_, _-_, _*_, _<_, _≤_}
 use native.Mathlib.Omega.{arith}
 use lib.Dec.{eqb, leb, ltb}
 use lib.ListN.{length}
-use Rattle.std.proofs.shelf.Tests.{cases-bool, cases-lt, cond-true, cond-false, and-parts, and-from, leb-true, ltb-true, le-leb, lt-ltb, both-ways}
+use Rattle.std.proofs.shelf.Tests.{cases-bool, cases-lt, cond-true, cond-false, and-parts, and-from, or-parts, leb-true, ltb-true, ltb-false, eqb-false, le-leb, lt-ltb, both-ways}
 use Rattle.std.proofs.shelf.Ways.{tells}
 use Rattle.std.specs.Iters.{counting}
 use Rattle.std.specs.Slices.{found}
@@ -70,9 +70,9 @@ module _ (y n : ℕ) (r : Request) (known : (2000 ≤ y) × (y ≤ 2099)) (few :
   month-is-place (Some m) h = let p = h .only m refl in sym (month-place .given m (p .0) (p .1))
   month-is-place None h = at-none (monthPlace y n r) refl
     where
-    at-none : (o : Option ℕ) → monthPlace y n r ≡ o → None ≡ o
-    at-none None e = refl
-    at-none (Some m) e = let p = month-place .only m e in h .given m (p .0) (p .1)
+      at-none : (o : Option ℕ) → monthPlace y n r ≡ o → None ≡ o
+      at-none None e = refl
+      at-none (Some m) e = let p = month-place .only m e in h .given m (p .0) (p .1)
 
   -- the month of a request is its column
   pub month-found : (m : ℕ) → m < n → InMonth y m (r .time) → MonthColumn y n r (Some m)
@@ -88,6 +88,74 @@ module _ (y n : ℕ) (r : Request) (known : (2000 ≤ y) × (y ≤ 2099)) (few :
   pub month-below : found (monthPlace y n r) (λ c. c < n)
   month-below = at (monthPlace y n r) refl
     where
-    at : (o : Option ℕ) → monthPlace y n r ≡ o → found o (λ c. c < n)
-    at None e = tt
-    at (Some m) e = month-place .only m e .0
+      at : (o : Option ℕ) → monthPlace y n r ≡ o → found o (λ c. c < n)
+      at None e = tt
+      at (Some m) e = month-place .only m e .0
+
+-- years of publication, by column
+module _ (y p : ℕ) where
+  publication-recent : (k q : ℕ) → k ≤ y - p → q + k ≡ y → 1 ≤ q → p ≤ y → publicationPlace y p q ≡ Some k
+  publication-recent k q h e l b = let f : y - q ≡ k = omega arith in grind (arith, tells)
+
+  publication-earlier : (q : ℕ) → 1 ≤ q → q < p → p ≤ y → publicationPlace y p q ≡ Some (y - p + 1)
+  publication-earlier q h l b = grind (arith, tells)
+
+  -- the column of a year that is neither blank nor too late
+  abbrev dated : ℕ → Option ℕ
+  dated q = cond (ltb q p) (Some (y - p + 1)) (Some (y - q))
+
+  publication-only : (k q : ℕ) → publicationPlace y p q ≡ Some k → ((k ≤ y - p) × (q + k ≡ y)) ⊎ ((k ≡ y - p + 1) × (1 ≤ q) × (q < p))
+  publication-only k q e =
+      ⊎-elim (λ t. absurd (no-some k (sym (cond-true (eqb q 0 || ltb y q) None (dated q) t) ∙ e)))
+      (λ t. let n = or-parts (eqb q 0) (ltb y q) t in
+      let l = ltb-false y q (n .1) in
+      let f = sym (cond-false (eqb q 0 || ltb y q) None (dated q) t) ∙ e in
+      ⊎-elim
+      (λ u. let g = sym (cond-true (ltb q p) (Some (y - p + 1)) (Some (y - q)) u) ∙ f in
+      let i : y - p + 1 ≡ k = cc in
+      let b = ltb-true q p u in
+      let z = eqb-false q 0 (n .0) in
+      inr (omega arith, omega arith, omega arith))
+      (λ u. let g = sym (cond-false (ltb q p) (Some (y - p + 1)) (Some (y - q)) u) ∙ f in
+      let i : y - q ≡ k = cc in
+      let b = ltb-false q p u in
+      inl (omega arith, omega arith))
+      (cases-bool (ltb q p)))
+      (cases-bool (eqb q 0 || ltb y q))
+
+  module _ (r : Request) (known : (2000 ≤ y) × (y ≤ 2099)) where
+    abbrev in-time : Bool
+    in-time = during (yearStart y) (yearStart (y + 1)) (r .time)
+
+    abbrev placed : Option ℕ
+    placed = publicationPlace y p (r .published)
+
+    made-in : in-time ≡ true → InYear y (r .time)
+    made-in t = let d = during-true (yearStart y) (yearStart (y + 1)) (r .time) t in record { known = known; from = d .0; to = d .1 }
+
+    -- a request made in the year has the column of its year of publication
+    pub year-within : InYear y (r .time) → yearPlace y p r ≡ placed
+    year-within i = cond-true in-time placed None (true-during (yearStart y) (yearStart (y + 1)) (r .time) (i .from) (i .to))
+
+    -- and any other has none
+    pub year-without : (InYear y (r .time) → ⊥) → yearPlace y p r ≡ None
+    year-without h = ⊎-elim (λ t. absurd (h (made-in t))) (λ t. cond-false in-time placed None t) (cases-bool in-time)
+
+    made-if : (k : ℕ) → yearPlace y p r ≡ Some k → InYear y (r .time)
+    made-if k e = ⊎-elim made-in (λ t. absurd (no-some k (sym (cond-false in-time placed None t) ∙ e))) (cases-bool in-time)
+
+    pub year-place : 1 ≤ p → p ≤ y → YearColumn y p r (yearPlace y p r)
+    year-place some before = record {
+      recent = λ k i h e. year-within i ∙ publication-recent k (r .published) h e (omega arith) before;
+      earlier = λ i h l. year-within i ∙ publication-earlier (r .published) h l before;
+      made = made-if;
+      only = λ k e. publication-only k (r .published) (sym (year-within (made-if k e)) ∙ e);
+    }
+
+    pub year-below : p ≤ y → found (yearPlace y p r) (λ c. c < y - p + 2)
+    year-below before = at (yearPlace y p r) refl
+      where
+        at : (o : Option ℕ) → yearPlace y p r ≡ o → found o (λ c. c < y - p + 2)
+        at None e = tt
+        at (Some k) e =
+            ⊎-elim (λ h. omega arith) (λ h. omega arith) (publication-only k (r .published) (sym (year-within (made-if k e)) ∙ e))

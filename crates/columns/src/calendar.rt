@@ -9,7 +9,18 @@ const LENGTHS: [u8; 12] = [31, 28, 31, 30, 31, 30, 31, 31, 30, 31, 30, 31];
 
 /// The months' English names in three letters.
 pub(crate) const NAMES: [[u8; 3]; 12] = [
-    *b"Jan", *b"Feb", *b"Mar", *b"Apr", *b"May", *b"Jun", *b"Jul", *b"Aug", *b"Sep", *b"Oct", *b"Nov", *b"Dec",
+    *b"Jan",
+    *b"Feb",
+    *b"Mar",
+    *b"Apr",
+    *b"May",
+    *b"Jun",
+    *b"Jul",
+    *b"Aug",
+    *b"Sep",
+    *b"Oct",
+    *b"Nov",
+    *b"Dec",
 ];
 
 /// The seconds of a day.
@@ -64,7 +75,12 @@ pub fn is_date(year: u16, month: u8, day: u8) -> bool
 pub fn year_digits(year: u16) -> [u8; 4]
     ensures { λ r. ⌜ r ≡ digits year ⌝ }
 {
-    [digit(year / 1000), digit(year / 100), digit(year / 10), digit(year)]
+    [
+        digit(year / 1000),
+        digit(year / 100),
+        digit(year / 10),
+        digit(year),
+    ]
 }
 
 /// The last decimal digit of a number, in ASCII.
@@ -84,7 +100,10 @@ pub fn month_of(time: u32) -> Option<Month>
     }
     let (years, day) = year_of_day(time / DAY);
     let year = 2000 + years;
-    Some(Month { year, month: month_of_day(year, day) })
+    Some(Month {
+        year,
+        month: month_of_day(year, day),
+    })
 }
 
 /// The year in which a day falls, as the number of years since 2000, and the day within that year.

@@ -3,6 +3,7 @@ mod calendar;
 mod month_scheme;
 mod period;
 mod scheme;
+mod year_scheme;
 
 pub use calendar::Month;
 pub use calendar::days_in;
@@ -14,3 +15,5 @@ pub use month_scheme::MonthColumns;
 pub use month_scheme::MonthScheme;
 pub use period::PeriodRefusal;
 pub use scheme::ColumnScheme;
+pub use year_scheme::YearColumns;
+pub use year_scheme::YearScheme;

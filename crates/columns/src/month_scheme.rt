@@ -40,7 +40,11 @@ impl MonthScheme {
         if last_month < 1 || last_month > 12 {
             return Err(PeriodRefusal::LastMonth);
         }
-        Ok(MonthScheme { year, months: last_month, headings: month_headings(year) })
+        Ok(MonthScheme {
+            year,
+            months: last_month,
+            headings: month_headings(year),
+        })
     }
 }
 
@@ -67,7 +71,11 @@ pub impl ColumnScheme for MonthScheme as MonthColumns {
     }
 
     fn heading(&self, column: usize) -> Option<&[u8]> {
-        if column < self.months { Some(&self.headings[column]) } else { None }
+        if column < self.months {
+            Some(&self.headings[column])
+        } else {
+            None
+        }
     }
 
     fn report(&self) -> &[u8] {
@@ -87,6 +95,10 @@ pub impl ColumnScheme for MonthScheme as MonthColumns {
         ensures month { λ c. ⌜ MonthColumn (now (self .entry) .year) (now (self .entry) .months) (now (request .entry)) c ⌝ }
     {
         let date = month_of(request.time)?;
-        if date.year == self.year && date.month < self.months { Some(date.month) } else { None }
+        if date.year == self.year && date.month < self.months {
+            Some(date.month)
+        } else {
+            None
+        }
     }
 }

@@ -34,12 +34,12 @@ returns-else-date-self c =
     let q = c .args .request .now in
     let d = c .in-Continue-date .date in
     let out : (m : ℕ) → m < s .months → InMonth (s .year) m (q .time) → ⊥ = λ m l i.
-      let e = sym (c .in-Continue-date .was tt) ∙ c .month-of .ensures .only (s .year) m i in
-      let y : d .year ≡ s .year = cc in
-      let o : d .month ≡ m = cc in
-      elim (c .else-date-self .came) [
+    let e = sym (c .in-Continue-date .was tt) ∙ c .month-of .ensures .only (s .year) m i in
+    let y : d .year ≡ s .year = cc in
+    let o : d .month ≡ m = cc in
+    elim (c .else-date-self .came) [
       | else-date-self·by·then-date-self·else-date-self-2 w ↦ omega arith
       | else-date-self·by·else-date-self w ↦ omega arith
-      ] in
+    ] in
     let m = month-missing (s .year) (s .months) q (s .known) (s .some .1) out in
     record { place = month-is-place (s .year) (s .months) q (s .known) (s .some .1) None m; month = m }

@@ -1,0 +1,139 @@
+//! Columns by year of publication.
+ghost use mathlib.Core.List.{[]};
+ghost use mathlib.Core.Path.{_≡_};
+ghost use Prim.Native.Nat.{ℕ, _+_, _-_, _<_, _≤_};
+ghost use lib.ListN.{getD};
+ghost use Rattle.std.specs.Results.{Cases};
+ghost use Rattle.std.specs.declared.option.Option.the-variants.{None, Some};
+ghost use Rattle.columns.specs.Layouts.{earlierHeading, recentHeading, yearLayout};
+ghost use Rattle.columns.specs.Periods.{refusalNumber, yearRefusal};
+ghost use Rattle.columns.specs.Places.{publicationPlace, YearColumn, yearPlace};
+use crate::calendar::month_of;
+use crate::calendar::year_digits;
+use crate::period::PeriodRefusal;
+use crate::scheme::ColumnScheme;
+use records::Request;
+
+/// The requests of a year by year of publication: a column for each year from that year back to a
+/// first one, and one for all earlier years.
+///
+/// The headings are kept, so that they can be lent.
+#[derive(Clone, Copy)]
+pub struct YearScheme {
+    year: u16,
+    first: u16,
+    recent: [[u8; 8]; 11],
+    earlier: [u8; 12],
+    ghost known: { (2000 ≤ year) × (year ≤ 2099) },
+    ghost span: { (first + 4 ≤ year) × (year ≤ first + 10) },
+    ghost written: { (k : ℕ) → k < 11 → getD recent k [] ≡ recentHeading (year - k) },
+    ghost last: { earlier ≡ earlierHeading first },
+}
+
+impl YearScheme {
+    /// The requests of a year of 2000 to 2099, by years of publication from `first_year` on, which
+    /// lies 4 to 10 years before it.
+    pub fn new(year: u16, first_year: u16) -> Result<YearScheme, PeriodRefusal>
+        ensures { λ r. ⌜ Cases r (λ s. (yearRefusal year «first_year» ≡ None) × (s .year ≡ year) × (s .first ≡ «first_year»)) (λ e. (yearRefusal year «first_year» ≡ Some e) × (refusalNumber e ≡ 9)) ⌝ }
+    {
+        if year < 2000 || year > 2099 {
+            return Err(PeriodRefusal::Year);
+        }
+        if first_year < year - 10 || first_year > year - 4 {
+            return Err(PeriodRefusal::FirstYear);
+        }
+        Ok(YearScheme {
+            year,
+            first: first_year,
+            recent: recent_headings(year),
+            earlier: earlier_heading(first_year),
+        })
+    }
+}
+
+/// The headings of a year and of the ten before it.
+fn recent_headings(year: u16) -> [[u8; 8]; 11]
+    requires { ⌜ 11 ≤ year ⌝ }
+    ensures { λ r. ⌜ ((k : ℕ) → k < 11 → getD r k [] ≡ recentHeading (year - k)) ⌝ }
+{
+    let mut headings = [[0; 8]; 11];
+    for back in 0..11 {
+        headings[back] = recent_heading(year - back as u16);
+    }
+    headings
+}
+
+/// The heading of one year.
+fn recent_heading(year: u16) -> [u8; 8]
+    ensures { λ r. ⌜ r ≡ recentHeading year ⌝ }
+{
+    let [m, c, d, u] = year_digits(year);
+    [b'Y', b'O', b'P', b'-', m, c, d, u]
+}
+
+/// The heading of all years before a first one.
+fn earlier_heading(first: u16) -> [u8; 12]
+    ensures { λ r. ⌜ r ≡ earlierHeading first ⌝ }
+{
+    let [m, c, d, u] = year_digits(first);
+    [b'Y', b'O', b'P', b' ', b'P', b'r', b'e', b'-', m, c, d, u]
+}
+
+/// The column of a year of publication, where 0 is blank.
+fn publication_column(year: u16, first: u16, published: u16) -> Option<usize>
+    requires { ⌜ first ≤ year ⌝ }
+    ensures { λ c. ⌜ c ≡ publicationPlace year first published ⌝ }
+{
+    if published == 0 || published > year {
+        None
+    } else if published < first {
+        Some(usize::from(year - first) + 1)
+    } else {
+        Some(usize::from(year - published))
+    }
+}
+
+pub impl ColumnScheme for YearScheme as YearColumns {
+    ghost layout = { λ s. yearLayout (s .year) (s .first) };
+
+    ghost place = { λ s r. yearPlace (s .year) (s .first) r };
+
+    fn columns(&self) -> usize {
+        usize::from(self.year - self.first) + 2
+    }
+
+    fn heading(&self, column: usize) -> Option<&[u8]> {
+        let span = usize::from(self.year - self.first);
+        if column <= span {
+            Some(&self.recent[column])
+        } else if column == span + 1 {
+            Some(&self.earlier)
+        } else {
+            None
+        }
+    }
+
+    fn report(&self) -> &[u8] {
+        b"Journal Report 5 (R3)"
+    }
+
+    fn description(&self) -> &[u8] {
+        b"Number of Successful Full-text Article Requests by Year and Journal"
+    }
+
+    fn has_ytd(&self) -> bool {
+        false
+    }
+
+    fn column(&self, request: &Request) -> Option<usize>
+        ensures place { λ c. ⌜ c ≡ yearPlace (now (self .entry) .year) (now (self .entry) .first) (now (request .entry)) ⌝ }
+        ensures year { λ c. ⌜ YearColumn (now (self .entry) .year) (now (self .entry) .first) (now (request .entry)) c ⌝ }
+    {
+        let date = month_of(request.time)?;
+        if date.year == self.year {
+            publication_column(self.year, self.first, request.published)
+        } else {
+            None
+        }
+    }
+}
