@@ -17,3 +17,6 @@ pub use period::PeriodRefusal;
 pub use scheme::ColumnScheme;
 pub use year_scheme::YearColumns;
 pub use year_scheme::YearScheme;
+
+#[cfg(test)]
+mod tests;

@@ -3,8 +3,8 @@ ghost use mathlib.Core.List.{[]};
 ghost use mathlib.Core.Path.{_≡_};
 ghost use Prim.Native.Nat.{ℕ, _<_, _≤_};
 ghost use lib.ListN.{getD};
-ghost use Rattle.std.specs.Results.{Cases};
-ghost use Rattle.std.specs.declared.option.Option.the-variants.{None, Some};
+ghost use Rattle.std.specs.Results.{Cases, errPart};
+ghost use Rattle.std.specs.Vec.{made};
 ghost use Rattle.columns.specs.Calendar.{names};
 ghost use Rattle.columns.specs.Layouts.{monthHeading, monthLayout};
 ghost use Rattle.columns.specs.Periods.{monthRefusal, refusalNumber};
@@ -32,7 +32,9 @@ pub struct MonthScheme {
 impl MonthScheme {
     /// The months from January to `last_month`, which counts from 1, of a year of 2000 to 2099.
     pub fn new(year: u16, last_month: usize) -> Result<MonthScheme, PeriodRefusal>
-        ensures { λ r. ⌜ Cases r (λ s. (monthRefusal year «last_month» ≡ None) × (s .year ≡ year) × (s .months ≡ «last_month»)) (λ e. (monthRefusal year «last_month» ≡ Some e) × (refusalNumber e ≡ 9)) ⌝ }
+        ensures refused { λ r. ⌜ errPart r ≡ monthRefusal year «last_month» ⌝ }
+        ensures numbered { λ r. ⌜ Cases r (λ _. Unit {0}) (λ e. refusalNumber e ≡ 9) ⌝ }
+        ensures made { λ r. ⌜ made r (λ s. (s .year ≡ year) × (s .months ≡ «last_month»)) ⌝ }
     {
         if year < 2000 || year > 2099 {
             return Err(PeriodRefusal::Year);

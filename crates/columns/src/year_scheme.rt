@@ -3,8 +3,8 @@ ghost use mathlib.Core.List.{[]};
 ghost use mathlib.Core.Path.{_≡_};
 ghost use Prim.Native.Nat.{ℕ, _+_, _-_, _<_, _≤_};
 ghost use lib.ListN.{getD};
-ghost use Rattle.std.specs.Results.{Cases};
-ghost use Rattle.std.specs.declared.option.Option.the-variants.{None, Some};
+ghost use Rattle.std.specs.Results.{Cases, errPart};
+ghost use Rattle.std.specs.Vec.{made};
 ghost use Rattle.columns.specs.Layouts.{earlierHeading, recentHeading, yearLayout};
 ghost use Rattle.columns.specs.Periods.{refusalNumber, yearRefusal};
 ghost use Rattle.columns.specs.Places.{publicationPlace, YearColumn, yearPlace};
@@ -34,7 +34,9 @@ impl YearScheme {
     /// The requests of a year of 2000 to 2099, by years of publication from `first_year` on, which
     /// lies 4 to 10 years before it.
     pub fn new(year: u16, first_year: u16) -> Result<YearScheme, PeriodRefusal>
-        ensures { λ r. ⌜ Cases r (λ s. (yearRefusal year «first_year» ≡ None) × (s .year ≡ year) × (s .first ≡ «first_year»)) (λ e. (yearRefusal year «first_year» ≡ Some e) × (refusalNumber e ≡ 9)) ⌝ }
+        ensures refused { λ r. ⌜ errPart r ≡ yearRefusal year «first_year» ⌝ }
+        ensures numbered { λ r. ⌜ Cases r (λ _. Unit {0}) (λ e. refusalNumber e ≡ 9) ⌝ }
+        ensures made { λ r. ⌜ made r (λ s. (s .year ≡ year) × (s .first ≡ «first_year»)) ⌝ }
     {
         if year < 2000 || year > 2099 {
             return Err(PeriodRefusal::Year);
