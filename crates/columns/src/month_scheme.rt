@@ -54,11 +54,11 @@ impl MonthScheme {
 fn month_headings(year: u16) -> [[u8; 8]; 12]
     ensures { λ r. ⌜ ((m : ℕ) → m < 12 → getD r m [] ≡ monthHeading year (getD names m [])) ⌝ }
 {
-    let [y, c, d, u] = year_digits(year);
+    let [a, b, c, d] = year_digits(year);
     let mut headings = [[0; 8]; 12];
     for month in 0..12 {
         let [first, second, third] = NAMES[month];
-        headings[month] = [first, second, third, b'-', y, c, d, u];
+        headings[month] = [first, second, third, b'-', a, b, c, d];
     }
     headings
 }

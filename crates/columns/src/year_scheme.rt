@@ -69,16 +69,16 @@ fn recent_headings(year: u16) -> [[u8; 8]; 11]
 fn recent_heading(year: u16) -> [u8; 8]
     ensures { λ r. ⌜ r ≡ recentHeading year ⌝ }
 {
-    let [m, c, d, u] = year_digits(year);
-    [b'Y', b'O', b'P', b'-', m, c, d, u]
+    let [a, b, c, d] = year_digits(year);
+    [b'Y', b'O', b'P', b'-', a, b, c, d]
 }
 
 /// The heading of all years before a first one.
 fn earlier_heading(first: u16) -> [u8; 12]
     ensures { λ r. ⌜ r ≡ earlierHeading first ⌝ }
 {
-    let [m, c, d, u] = year_digits(first);
-    [b'Y', b'O', b'P', b' ', b'P', b'r', b'e', b'-', m, c, d, u]
+    let [a, b, c, d] = year_digits(first);
+    [b'Y', b'O', b'P', b' ', b'P', b'r', b'e', b'-', a, b, c, d]
 }
 
 /// The column of a year of publication, where 0 is blank.
