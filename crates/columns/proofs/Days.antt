@@ -1,16 +1,12 @@
 -- How many days years and months have together, and in which month a second lies.
-use mathlib.Core.Bool.{Bool, true, false, cond}
 use mathlib.Core.Logic.{⊎-elim}
-use mathlib.Core.Path.{_≡_, refl, sym, ap, subst, _∙_}
-use Prim.Native.Nat.{ℕ, zero, suc, _+_, _-_, _*_, _/_, _%_, _<_, _≤_}
-use native.Mathlib.Numerals.{add-one}
+use mathlib.Core.Path.{_≡_, refl, subst}
+use Prim.Native.Nat.{ℕ, zero, suc, _+_, _-_, _*_, _/_, _<_, _≤_}
 use native.Mathlib.Omega.{arith}
-use lib.Dec.{eqb}
 use Rattle.std.proofs.shelf.Tests.{cases-order}
 use Rattle.std.proofs.shelf.Ways.{tells}
-use Rattle.std.specs.declared.option.Option.{Option}
 use Rattle.std.specs.declared.option.Option.the-variants.{Some, None}
-use Rattle.columns.specs.Calendar.{leap, daysIn, daysInYear, daysOfYears, daysOfMonths, yearStart, monthStart, InYear, InMonth, MonthOf}
+use Rattle.columns.specs.Calendar.{leap, daysInYear, daysOfYears, daysOfMonths, yearStart, monthStart, InYear, InMonth, MonthOf}
 use Rattle.columns.specs.declared.calendar.Month.{Month}
 
 -- the leap years among the first n are every fourth one, from the first on

@@ -1,6 +1,6 @@
 -- The headings of a month scheme.
 use mathlib.Core.Bool.{Bool, true, false, cond, _&&_}
-use mathlib.Core.List.{List, [], _∷_, _++_, map}
+use mathlib.Core.List.{List, [], _∷_, _++_}
 use mathlib.Core.Path.{_≡_, refl, sym, ap, _∙_}
 use Prim.Native.Nat.{ℕ, zero, suc, _+_, _%_, _<_, _≤_}
 use native.Mathlib.Omega.{arith}
@@ -8,15 +8,11 @@ use lib.Dec.{eqb}
 use lib.ListN.{length, getD, take}
 use Rattle.std.proofs.shelf.Elements.{all-getD}
 use Rattle.std.proofs.shelf.Lists.{length-map, length-take-le, getD-map, getD-take}
-use Rattle.std.proofs.shelf.Maps.{nth-getD, nth-past}
 use Rattle.std.proofs.shelf.Ways.{tells}
-use Rattle.std.specs.declared.option.Option.{Option}
-use Rattle.std.specs.declared.option.Option.the-variants.{Some, None}
 use Rattle.std.specs.shelf.Lists.{All}
-use Rattle.std.specs.shelf.Maps.{nth}
 use Rattle.texts.specs.Texts.{fit, allFit, isText}
 use Rattle.columns.specs.Calendar.{digits, names}
-use Rattle.columns.specs.Layouts.{Layout, Sound, monthHeading, monthLayout}
+use Rattle.columns.specs.Layouts.{Sound, monthHeading, monthLayout}
 
 fit-digit : (n : ℕ) → fit (48 + n % 10) ≡ true
 fit-digit n = let h : n % 10 < 10 = omega arith in grind (arith, tells)
@@ -62,13 +58,6 @@ module _ (y n : ℕ) (few : n ≤ 12) where
 
   pub month-at : (k : ℕ) → k < n → getD headings k [] ≡ monthHeading y (getD names k [])
   month-at k l = getD-map (monthHeading y) (take n names) k [] [] (rw length-take-le l) ∙ ap (monthHeading y) (getD-take n names k [] l)
-
-  -- a column below n has the heading h, and one from n on has none
-  pub month-heading : (k : ℕ) (h : List ℕ) → k < n → h ≡ monthHeading y (getD names k []) → Some h ≡ nth headings k
-  month-heading k h l e = ap Some (e ∙ sym (month-at k l)) ∙ sym (nth-getD headings k [] (rw month-length l))
-
-  pub month-past : (k : ℕ) → n ≤ k → None ≡ nth headings k
-  month-past k l = sym (nth-past headings k (rw month-length l))
 
   month-texts : All (λ name. isText (monthHeading y name) ≡ true) names
   month-texts = let t = fit-digits y in (t, (t, (t, (t, (t, (t, (t, (t, (t, (t, (t, (t, tt))))))))))))

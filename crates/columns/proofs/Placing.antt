@@ -1,23 +1,19 @@
 -- What column a request has, as a relation.
-use mathlib.Core.Bool.{Bool, true, false, cond, _&&_, _||_}
-use mathlib.Core.List.{List, [], _∷_}
+use mathlib.Core.Bool.{Bool, true, cond, _||_}
 use mathlib.Core.Logic.{_⊎_, inl, inr, ⊎-elim}
-use mathlib.Core.Path.{_≡_, refl, sym, ap, subst, _∙_}
-use Prim.Native.Nat.{ℕ, zero, suc, _+_, _-_, _*_, _<_, _≤_}
+use mathlib.Core.Path.{_≡_, refl, sym, ap, _∙_}
+use Prim.Native.Nat.{ℕ, zero, suc, _+_, _-_, _<_, _≤_}
 use native.Mathlib.Omega.{arith}
 use lib.Dec.{eqb, leb, ltb}
-use lib.ListN.{length}
 use Rattle.std.proofs.shelf.Tests.{cases-bool, cases-lt, cond-true, cond-false, and-parts, and-from, or-parts, leb-true, ltb-true, ltb-false, eqb-false, le-leb, lt-ltb, both-ways}
 use Rattle.std.proofs.shelf.Ways.{tells}
 use Rattle.std.specs.Iters.{counting}
 use Rattle.std.specs.Slices.{found}
 use Rattle.std.specs.declared.option.Option.{Option}
 use Rattle.std.specs.declared.option.Option.the-variants.{Some, None}
-use Rattle.records.specs.declared.request.Request.{Request}
-use Rattle.columns.specs.Calendar.{yearStart, monthStart, InYear, InMonth, MonthOf}
+use Rattle.columns.specs.Calendar.{yearStart, monthStart, InYear, InMonth}
 use Rattle.columns.specs.Places.{during, first, monthPlace, MonthColumn, publicationPlace, yearPlace, YearColumn}
-use Rattle.columns.specs.declared.calendar.Month.{Month}
-use Rattle.columns.proofs.Days.{in-year, in-calendar, same-year, same-month}
+use Rattle.columns.proofs.Days.{same-month}
 
 no-some : {X : Type 0} (x : X) → None ≡ Some x → ⊥
 no-some x e = let z : _≡_ {A = ℕ} 0 1 = cc in omega arith
@@ -50,45 +46,45 @@ module _ (test : ℕ → Bool) where
       (cases-bool (test a))
 
 -- months of a year, by column
-module _ (y n : ℕ) (r : Request) (known : (2000 ≤ y) × (y ≤ 2099)) (few : n ≤ 12) where
+module _ (y n t : ℕ) (known : (2000 ≤ y) × (y ≤ 2099)) (few : n ≤ 12) where
   abbrev in-month : ℕ → Bool
-  in-month m = during (monthStart y m) (monthStart y (m + 1)) (r .time)
+  in-month m = during (monthStart y m) (monthStart y (m + 1)) t
 
-  pub month-place : MonthColumn y n r (monthPlace y n r)
+  pub month-place : MonthColumn y n t (monthPlace y n t)
   month-place = record {
     given = λ m l i.
-        first-finds in-month 0 n m (omega arith) (omega arith) (true-during (monthStart y m) (monthStart y (m + 1)) (r .time) (i .from) (i .to))
-        (λ k t. let d = during-true (monthStart y k) (monthStart y (k + 1)) (r .time) t in same-month y k m (r .time) (d .0) (d .1) (i .from) (i .to));
+        first-finds in-month 0 n m (omega arith) (omega arith) (true-during (monthStart y m) (monthStart y (m + 1)) t (i .from) (i .to))
+        (λ k u. let d = during-true (monthStart y k) (monthStart y (k + 1)) t u in same-month y k m t (d .0) (d .1) (i .from) (i .to));
     only = λ m e.
         let p = first-passes in-month 0 n m e in
-        let d = during-true (monthStart y m) (monthStart y (m + 1)) (r .time) (p .1) in
+        let d = during-true (monthStart y m) (monthStart y (m + 1)) t (p .1) in
         (omega arith, record { known = known; month = omega arith; from = d .0; to = d .1 });
   }
 
   -- the relation leaves no choice
-  pub month-is-place : (c : Option ℕ) → MonthColumn y n r c → c ≡ monthPlace y n r
+  pub month-is-place : (c : Option ℕ) → MonthColumn y n t c → c ≡ monthPlace y n t
   month-is-place (Some m) h = let p = h .only m refl in sym (month-place .given m (p .0) (p .1))
-  month-is-place None h = at-none (monthPlace y n r) refl
+  month-is-place None h = at-none (monthPlace y n t) refl
     where
-      at-none : (o : Option ℕ) → monthPlace y n r ≡ o → None ≡ o
+      at-none : (o : Option ℕ) → monthPlace y n t ≡ o → None ≡ o
       at-none None e = refl
       at-none (Some m) e = let p = month-place .only m e in h .given m (p .0) (p .1)
 
   -- the month of a request is its column
-  pub month-found : (m : ℕ) → m < n → InMonth y m (r .time) → MonthColumn y n r (Some m)
+  pub month-found : (m : ℕ) → m < n → InMonth y m t → MonthColumn y n t (Some m)
   month-found m l i = record {
-    given = λ k h j. ap Some (same-month y m k (r .time) (i .from) (i .to) (j .from) (j .to));
+    given = λ k h j. ap Some (same-month y m k t (i .from) (i .to) (j .from) (j .to));
     only = λ k e. let f : m ≡ k = cc in (omega arith, rw f at i);
   }
 
   -- a request of none of the months has no column
-  pub month-missing : ((m : ℕ) → m < n → InMonth y m (r .time) → ⊥) → MonthColumn y n r None
+  pub month-missing : ((m : ℕ) → m < n → InMonth y m t → ⊥) → MonthColumn y n t None
   month-missing h = record { given = λ m l i. absurd (h m l i); only = λ m e. absurd (no-some m e) }
 
-  pub month-below : found (monthPlace y n r) (λ c. c < n)
-  month-below = at (monthPlace y n r) refl
+  pub month-below : found (monthPlace y n t) (λ c. c < n)
+  month-below = at (monthPlace y n t) refl
     where
-      at : (o : Option ℕ) → monthPlace y n r ≡ o → found o (λ c. c < n)
+      at : (o : Option ℕ) → monthPlace y n t ≡ o → found o (λ c. c < n)
       at None e = tt
       at (Some m) e = month-place .only m e .0
 
@@ -123,39 +119,39 @@ module _ (y p : ℕ) where
       (cases-bool (ltb q p)))
       (cases-bool (eqb q 0 || ltb y q))
 
-  module _ (r : Request) (known : (2000 ≤ y) × (y ≤ 2099)) where
+  module _ (t q : ℕ) (known : (2000 ≤ y) × (y ≤ 2099)) where
     abbrev in-time : Bool
-    in-time = during (yearStart y) (yearStart (y + 1)) (r .time)
+    in-time = during (yearStart y) (yearStart (y + 1)) t
 
     abbrev placed : Option ℕ
-    placed = publicationPlace y p (r .published)
+    placed = publicationPlace y p q
 
-    made-in : in-time ≡ true → InYear y (r .time)
-    made-in t = let d = during-true (yearStart y) (yearStart (y + 1)) (r .time) t in record { known = known; from = d .0; to = d .1 }
+    made-in : in-time ≡ true → InYear y t
+    made-in u = let d = during-true (yearStart y) (yearStart (y + 1)) t u in record { known = known; from = d .0; to = d .1 }
 
     -- a request made in the year has the column of its year of publication
-    pub year-within : InYear y (r .time) → yearPlace y p r ≡ placed
-    year-within i = cond-true in-time placed None (true-during (yearStart y) (yearStart (y + 1)) (r .time) (i .from) (i .to))
+    pub year-within : InYear y t → yearPlace y p t q ≡ placed
+    year-within i = cond-true in-time placed None (true-during (yearStart y) (yearStart (y + 1)) t (i .from) (i .to))
 
     -- and any other has none
-    pub year-without : (InYear y (r .time) → ⊥) → yearPlace y p r ≡ None
+    pub year-without : (InYear y t → ⊥) → yearPlace y p t q ≡ None
     year-without h = ⊎-elim (λ t. absurd (h (made-in t))) (λ t. cond-false in-time placed None t) (cases-bool in-time)
 
-    made-if : (k : ℕ) → yearPlace y p r ≡ Some k → InYear y (r .time)
+    made-if : (k : ℕ) → yearPlace y p t q ≡ Some k → InYear y t
     made-if k e = ⊎-elim made-in (λ t. absurd (no-some k (sym (cond-false in-time placed None t) ∙ e))) (cases-bool in-time)
 
-    pub year-place : 1 ≤ p → p ≤ y → YearColumn y p r (yearPlace y p r)
+    pub year-place : 1 ≤ p → p ≤ y → YearColumn y p t q (yearPlace y p t q)
     year-place some before = record {
-      recent = λ k i h e. year-within i ∙ publication-recent k (r .published) h e (omega arith) before;
-      earlier = λ i h l. year-within i ∙ publication-earlier (r .published) h l before;
+      recent = λ k i h e. year-within i ∙ publication-recent k q h e (omega arith) before;
+      earlier = λ i h l. year-within i ∙ publication-earlier q h l before;
       made = made-if;
-      only = λ k e. publication-only k (r .published) (sym (year-within (made-if k e)) ∙ e);
+      only = λ k e. publication-only k q (sym (year-within (made-if k e)) ∙ e);
     }
 
-    pub year-below : p ≤ y → found (yearPlace y p r) (λ c. c < y - p + 2)
-    year-below before = at (yearPlace y p r) refl
+    pub year-below : p ≤ y → found (yearPlace y p t q) (λ c. c < y - p + 2)
+    year-below before = at (yearPlace y p t q) refl
       where
-        at : (o : Option ℕ) → yearPlace y p r ≡ o → found o (λ c. c < y - p + 2)
+        at : (o : Option ℕ) → yearPlace y p t q ≡ o → found o (λ c. c < y - p + 2)
         at None e = tt
         at (Some k) e =
-            ⊎-elim (λ h. omega arith) (λ h. omega arith) (publication-only k (r .published) (sym (year-within (made-if k e)) ∙ e))
+            ⊎-elim (λ h. omega arith) (λ h. omega arith) (publication-only k q (sym (year-within (made-if k e)) ∙ e))

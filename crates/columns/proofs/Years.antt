@@ -1,22 +1,18 @@
 -- The headings of a year scheme.
-use mathlib.Core.Bool.{Bool, true, false, cond}
-use mathlib.Core.List.{List, [], _∷_, _++_, map}
+use mathlib.Core.Bool.{true}
+use mathlib.Core.List.{List, [], _∷_, map}
 use mathlib.Core.Logic.{⊎-elim}
 use mathlib.Core.Path.{_≡_, refl, sym, ap, _∙_}
-use Prim.Native.Nat.{ℕ, _+_, _-_, _*_, _/_, _%_, _<_, _≤_}
+use Prim.Native.Nat.{ℕ, _+_, _-_, _*_, _/_, _<_, _≤_}
 use native.Mathlib.Omega.{arith}
 use lib.ListN.{length, getD, drop}
 use Rattle.std.proofs.shelf.Counted.{length-map-counting, getD-map-counting}
 use Rattle.std.proofs.shelf.Lists.{length-append, getD-append-left, getD-append-right}
-use Rattle.std.proofs.shelf.Maps.{nth-getD, nth-past}
 use Rattle.std.proofs.shelf.Tests.{cases-lt}
 use Rattle.std.specs.Iters.{counting}
-use Rattle.std.specs.declared.option.Option.{Option}
-use Rattle.std.specs.declared.option.Option.the-variants.{Some, None}
-use Rattle.std.specs.shelf.Maps.{nth}
 use Rattle.texts.specs.Texts.{isText}
 use Rattle.columns.specs.Calendar.{digits}
-use Rattle.columns.specs.Layouts.{Layout, Sound, recentHeading, earlierHeading, yearLayout}
+use Rattle.columns.specs.Layouts.{Sound, recentHeading, earlierHeading, yearLayout}
 use Rattle.columns.proofs.Months.{fit-digits}
 
 -- the number that four digits write
@@ -44,30 +40,17 @@ module _ (y p : ℕ) where
   pub year-length : length headings ≡ y - p + 2
   year-length = length-append recents (earlierHeading p ∷ []) ∙ omega (arith, recents-length)
 
-  recent-at : (k : ℕ) → k ≤ y - p → getD headings k [] ≡ recentHeading (y - k)
+  pub recent-at : (k : ℕ) → k ≤ y - p → getD headings k [] ≡ recentHeading (y - k)
   recent-at k h =
       let l : k < y - p + 1 = omega arith in
       getD-append-left recents (earlierHeading p ∷ []) [] k (rw recents-length l)
       ∙ getD-map-counting (λ k. recentHeading (y - k)) 0 (y - p + 1) k k [] l (omega arith)
 
-  earlier-at : (k : ℕ) → k ≡ y - p + 1 → getD headings k [] ≡ earlierHeading p
+  pub earlier-at : (k : ℕ) → k ≡ y - p + 1 → getD headings k [] ≡ earlierHeading p
   earlier-at k h =
       let e : k - (y - p + 1) ≡ 0 = omega arith in
       getD-append-right recents (earlierHeading p ∷ []) (y - p + 1) k [] recents-length (omega arith)
       ∙ ap (λ i. getD (earlierHeading p ∷ []) i []) e
-
-  shown : (k : ℕ) → k < y - p + 2 → nth headings k ≡ Some (getD headings k [])
-  shown k l = nth-getD headings k [] (rw year-length l)
-
-  -- what stands above a column: a recent year, all earlier ones, or nothing
-  pub recent-heading : (k : ℕ) (h : List ℕ) → k ≤ y - p → h ≡ recentHeading (y - k) → Some h ≡ nth headings k
-  recent-heading k h l e = ap Some (e ∙ sym (recent-at k l)) ∙ sym (shown k (omega arith))
-
-  pub earlier-heading : (k : ℕ) (h : List ℕ) → k ≡ y - p + 1 → h ≡ earlierHeading p → Some h ≡ nth headings k
-  earlier-heading k h l e = ap Some (e ∙ sym (earlier-at k l)) ∙ sym (shown k (omega arith))
-
-  pub year-past : (k : ℕ) → y - p + 1 < k → None ≡ nth headings k
-  year-past k l = sym (nth-past headings k (rw year-length (omega arith)))
 
   texts : (k : ℕ) → k < y - p + 2 → isText (getD headings k []) ≡ true
   texts k h =

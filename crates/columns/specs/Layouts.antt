@@ -1,10 +1,11 @@
 -- What a column scheme shows in a report.
 use denote.Ref.{RefT}
-use mathlib.Core.Bool.{Bool, true, false}
+use mathlib.Core.Bool.{Bool, true, false, cond}
 use mathlib.Core.List.{List, [], _∷_, _++_, map}
 use mathlib.Core.Path.{_≡_}
 use Prim.Native.Nat.{ℕ, _+_, _-_, _<_, _≤_}
 use lib.Chars.{codes}
+use lib.Dec.{ltb}
 use lib.ListN.{length, getD, take}
 use Rattle.std.specs.Iters.{counting}
 use Rattle.std.specs.declared.option.Option.{Option}
@@ -28,6 +29,10 @@ pub record Sound (l : Layout) : Type 0 where
   pub differ : (i j : ℕ) → i < length (l .headings) → j < length (l .headings) → getD (l .headings) i [] ≡ getD (l .headings) j [] → i ≡ j
   pub report : isText (l .report) ≡ true
   pub description : isText (l .description) ≡ true
+
+-- the heading of a column, and none past the last
+abbrev pub headingAt : Layout → ℕ → Option (List ℕ)
+headingAt l c = cond (ltb c (length (l .headings))) (Some (getD (l .headings) c [])) None
 
 -- the bytes that are lent, if any
 abbrev pub lent : Option (RefT (List ℕ)) → Option (List ℕ)

@@ -1,5 +1,5 @@
 -- Which periods a column scheme can have.
-use mathlib.Core.Bool.{Bool, cond, _&&_}
+use mathlib.Core.Bool.{cond, _&&_}
 use Prim.Native.Nat.{ℕ, _+_}
 use lib.Dec.{leb}
 use Rattle.std.specs.declared.option.Option.{Option}

@@ -1,6 +1,6 @@
 //! The calendar of the years 2000 to 2099.
 ghost use mathlib.Core.Path.{_≡_};
-ghost use Prim.Native.Nat.{ℕ, _+_, _-_, _*_, _/_, _%_, _<_, _≤_};
+ghost use Prim.Native.Nat.{_+_, _%_, _<_, _≤_};
 ghost use Rattle.std.specs.shelf.Maps.{nth};
 ghost use Rattle.columns.specs.Calendar.{daysIn, daysInYear, daysOfMonths, daysOfYears, digits, isDate, MonthOf, names};
 

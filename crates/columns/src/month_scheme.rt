@@ -2,7 +2,7 @@
 ghost use mathlib.Core.List.{[]};
 ghost use mathlib.Core.Path.{_≡_};
 ghost use Prim.Native.Nat.{ℕ, _<_, _≤_};
-ghost use lib.ListN.{getD};
+ghost use lib.ListN.{getD, length};
 ghost use Rattle.std.specs.Results.{Cases, errPart};
 ghost use Rattle.std.specs.Vec.{made};
 ghost use Rattle.columns.specs.Calendar.{names};
@@ -26,11 +26,15 @@ pub struct MonthScheme {
     headings: [[u8; 8]; 12],
     ghost known: { (2000 ≤ year) × (year ≤ 2099) },
     ghost some: { (1 ≤ months) × (months ≤ 12) },
-    ghost written: { (m : ℕ) → m < 12 → getD headings m [] ≡ monthHeading year (getD names m []) },
+    ghost count: { months ≡ length (monthLayout year months .headings) },
+    ghost kept: { (m : ℕ) → m < months → getD headings m [] ≡ getD (monthLayout year months .headings) m [] },
 }
 
 impl MonthScheme {
     /// The months from January to `last_month`, which counts from 1, of a year of 2000 to 2099.
+    ///
+    /// The year is judged before the month. What is made shows the layout and gives the places of
+    /// just these months.
     pub fn new(year: u16, last_month: usize) -> Result<MonthScheme, PeriodRefusal>
         ensures refused { λ r. ⌜ errPart r ≡ monthRefusal year «last_month» ⌝ }
         ensures numbered { λ r. ⌜ Cases r (λ _. Unit {0}) (λ e. refusalNumber e ≡ 9) ⌝ }
@@ -42,11 +46,32 @@ impl MonthScheme {
         if last_month < 1 || last_month > 12 {
             return Err(PeriodRefusal::LastMonth);
         }
-        Ok(MonthScheme {
+        Ok(MonthScheme::of(year, last_month))
+    }
+
+    /// The scheme of a period that is in range.
+    fn of(year: u16, months: usize) -> MonthScheme
+        requires { ⌜ (2000 ≤ year) × (year ≤ 2099) × (1 ≤ months) × (months ≤ 12) ⌝ }
+        ensures { λ s. ⌜ (s .year ≡ year) × (s .months ≡ months) ⌝ }
+    {
+        MonthScheme {
             year,
-            months: last_month,
+            months,
             headings: month_headings(year),
-        })
+        }
+    }
+
+    /// The column of a request made at a second.
+    fn column_at(&self, time: u32) -> Option<usize>
+        ensures place { λ c. ⌜ c ≡ monthPlace (now (self .entry) .year) (now (self .entry) .months) time ⌝ }
+        ensures month { λ c. ⌜ MonthColumn (now (self .entry) .year) (now (self .entry) .months) time c ⌝ }
+    {
+        let date = month_of(time)?;
+        if date.year == self.year && date.month < self.months {
+            Some(date.month)
+        } else {
+            None
+        }
     }
 }
 
@@ -66,7 +91,7 @@ fn month_headings(year: u16) -> [[u8; 8]; 12]
 pub impl ColumnScheme for MonthScheme as MonthColumns {
     ghost layout = { λ s. monthLayout (s .year) (s .months) };
 
-    ghost place = { λ s r. monthPlace (s .year) (s .months) r };
+    ghost place = { λ s r. monthPlace (s .year) (s .months) (r .time) };
 
     fn columns(&self) -> usize {
         self.months
@@ -93,14 +118,9 @@ pub impl ColumnScheme for MonthScheme as MonthColumns {
     }
 
     fn column(&self, request: &Request) -> Option<usize>
-        ensures place { λ c. ⌜ c ≡ monthPlace (now (self .entry) .year) (now (self .entry) .months) (now (request .entry)) ⌝ }
-        ensures month { λ c. ⌜ MonthColumn (now (self .entry) .year) (now (self .entry) .months) (now (request .entry)) c ⌝ }
+        ensures place { λ c. ⌜ c ≡ monthPlace (now (self .entry) .year) (now (self .entry) .months) (now (request .entry) .time) ⌝ }
+        ensures month { λ c. ⌜ MonthColumn (now (self .entry) .year) (now (self .entry) .months) (now (request .entry) .time) c ⌝ }
     {
-        let date = month_of(request.time)?;
-        if date.year == self.year && date.month < self.months {
-            Some(date.month)
-        } else {
-            None
-        }
+        self.column_at(request.time)
     }
 }

@@ -4,9 +4,8 @@ ghost use Prim.Native.Nat.{ℕ, _<_};
 ghost use lib.ListN.{length};
 ghost use Rattle.std.specs.Slices.{found};
 ghost use Rattle.std.specs.declared.option.Option.{Option};
-ghost use Rattle.std.specs.shelf.Maps.{nth};
 ghost use Rattle.records.specs.declared.request.Request.{Request};
-ghost use Rattle.columns.specs.Layouts.{Layout, Sound, lent};
+ghost use Rattle.columns.specs.Layouts.{headingAt, Layout, lent, Sound};
 use records::Request;
 
 /// The columns of a report, and the column of a request.
@@ -28,7 +27,7 @@ pub trait ColumnScheme {
 
     /// The heading of a column, and none past the last.
     fn heading(&self, column: usize) -> Option<&[u8]>
-        ensures { λ r. ⌜ lent r ≡ nth (layout (now (self .entry)) .headings) column ⌝ };
+        ensures { λ r. ⌜ lent r ≡ headingAt (layout (now (self .entry))) column ⌝ };
 
     /// The first cell of a report's first line: which report it is.
     fn report(&self) -> &[u8]

@@ -2,7 +2,7 @@
 ghost use mathlib.Core.List.{[]};
 ghost use mathlib.Core.Path.{_≡_};
 ghost use Prim.Native.Nat.{ℕ, _+_, _-_, _<_, _≤_};
-ghost use lib.ListN.{getD};
+ghost use lib.ListN.{getD, length};
 ghost use Rattle.std.specs.Results.{Cases, errPart};
 ghost use Rattle.std.specs.Vec.{made};
 ghost use Rattle.columns.specs.Layouts.{earlierHeading, recentHeading, yearLayout};
@@ -26,13 +26,17 @@ pub struct YearScheme {
     earlier: [u8; 12],
     ghost known: { (2000 ≤ year) × (year ≤ 2099) },
     ghost span: { (first + 4 ≤ year) × (year ≤ first + 10) },
-    ghost written: { (k : ℕ) → k < 11 → getD recent k [] ≡ recentHeading (year - k) },
-    ghost last: { earlier ≡ earlierHeading first },
+    ghost count: { year - first + 2 ≡ length (yearLayout year first .headings) },
+    ghost kept: { (k : ℕ) → k ≤ year - first → getD recent k [] ≡ getD (yearLayout year first .headings) k [] },
+    ghost last: { earlier ≡ getD (yearLayout year first .headings) (year - first + 1) [] },
 }
 
 impl YearScheme {
     /// The requests of a year of 2000 to 2099, by years of publication from `first_year` on, which
     /// lies 4 to 10 years before it.
+    ///
+    /// The year is judged before the first year. What is made shows the layout and gives the places
+    /// of just these years.
     pub fn new(year: u16, first_year: u16) -> Result<YearScheme, PeriodRefusal>
         ensures refused { λ r. ⌜ errPart r ≡ yearRefusal year «first_year» ⌝ }
         ensures numbered { λ r. ⌜ Cases r (λ _. Unit {0}) (λ e. refusalNumber e ≡ 9) ⌝ }
@@ -44,12 +48,33 @@ impl YearScheme {
         if first_year < year - 10 || first_year > year - 4 {
             return Err(PeriodRefusal::FirstYear);
         }
-        Ok(YearScheme {
+        Ok(YearScheme::of(year, first_year))
+    }
+
+    /// The scheme of a period that is in range.
+    fn of(year: u16, first: u16) -> YearScheme
+        requires { ⌜ (2000 ≤ year) × (year ≤ 2099) × (first + 4 ≤ year) × (year ≤ first + 10) ⌝ }
+        ensures { λ s. ⌜ (s .year ≡ year) × (s .first ≡ first) ⌝ }
+    {
+        YearScheme {
             year,
-            first: first_year,
+            first,
             recent: recent_headings(year),
-            earlier: earlier_heading(first_year),
-        })
+            earlier: earlier_heading(first),
+        }
+    }
+
+    /// The column of a request made at a second for what was published in a year.
+    fn column_at(&self, time: u32, published: u16) -> Option<usize>
+        ensures place { λ c. ⌜ c ≡ yearPlace (now (self .entry) .year) (now (self .entry) .first) time published ⌝ }
+        ensures year { λ c. ⌜ YearColumn (now (self .entry) .year) (now (self .entry) .first) time published c ⌝ }
+    {
+        let date = month_of(time)?;
+        if date.year == self.year {
+            publication_column(self.year, self.first, published)
+        } else {
+            None
+        }
     }
 }
 
@@ -98,7 +123,7 @@ fn publication_column(year: u16, first: u16, published: u16) -> Option<usize>
 pub impl ColumnScheme for YearScheme as YearColumns {
     ghost layout = { λ s. yearLayout (s .year) (s .first) };
 
-    ghost place = { λ s r. yearPlace (s .year) (s .first) r };
+    ghost place = { λ s r. yearPlace (s .year) (s .first) (r .time) (r .published) };
 
     fn columns(&self) -> usize {
         usize::from(self.year - self.first) + 2
@@ -128,14 +153,9 @@ pub impl ColumnScheme for YearScheme as YearColumns {
     }
 
     fn column(&self, request: &Request) -> Option<usize>
-        ensures place { λ c. ⌜ c ≡ yearPlace (now (self .entry) .year) (now (self .entry) .first) (now (request .entry)) ⌝ }
-        ensures year { λ c. ⌜ YearColumn (now (self .entry) .year) (now (self .entry) .first) (now (request .entry)) c ⌝ }
+        ensures place { λ c. ⌜ c ≡ yearPlace (now (self .entry) .year) (now (self .entry) .first) (now (request .entry) .time) (now (request .entry) .published) ⌝ }
+        ensures year { λ c. ⌜ YearColumn (now (self .entry) .year) (now (self .entry) .first) (now (request .entry) .time) (now (request .entry) .published) c ⌝ }
     {
-        let date = month_of(request.time)?;
-        if date.year == self.year {
-            publication_column(self.year, self.first, request.published)
-        } else {
-            None
-        }
+        self.column_at(request.time, request.published)
     }
 }

@@ -1,5 +1,5 @@
 -- The month of a second is that of its day.
-use Prim.Native.Nat.{_+_, _/_}
+use Prim.Native.Nat.{_+_}
 use native.Mathlib.Omega.{arith}
 use Rattle.columns.proofs.Days.{month-known, month-of-day, month-unknown}
 use Rattle.columns.proofs.calendar.month_of.Needs as need

@@ -7,4 +7,4 @@ pub sound-law : need.sound-law
 sound-law s = month-sound (s .year) (s .months) (s .some .1) (s .some .0)
 
 pub below-law : need.below-law
-below-law s r = simp (month-length (s .year) (s .months) (s .some .1)) (month-below (s .year) (s .months) r (s .known) (s .some .1))
+below-law s r = simp (month-length (s .year) (s .months) (s .some .1)) (month-below (s .year) (s .months) (r .time) (s .known) (s .some .1))

@@ -8,4 +8,4 @@ pub sound-law : need.sound-law
 sound-law s = year-sound (s .year) (s .first) (omega arith) (omega arith) (s .span .1)
 
 pub below-law : need.below-law
-below-law s r = simp (year-length (s .year) (s .first)) (year-below (s .year) (s .first) r (s .known) (omega arith))
+below-law s r = simp (year-length (s .year) (s .first)) (year-below (s .year) (s .first) (r .time) (r .published) (s .known) (omega arith))
