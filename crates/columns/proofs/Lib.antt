@@ -1,0 +1,4 @@
+pub mod Days
+pub mod Months
+pub mod Placing
+pub mod Years

@@ -1,0 +1,4 @@
+pub mod Calendar
+pub mod Layouts
+pub mod Periods
+pub mod Places
