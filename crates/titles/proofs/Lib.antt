@@ -1,1 +1,2 @@
+pub mod Fitness
 pub mod Halves

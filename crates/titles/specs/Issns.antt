@@ -11,6 +11,7 @@ use Rattle.std.specs.declared.result.Result.{Result}
 use Rattle.std.specs.declared.result.Result.the-variants.{Ok, Err}
 use Rattle.titles.specs.declared.issn.IssnFault.{IssnFault}
 use Rattle.titles.specs.declared.issn.IssnFault.the-variants.{Length, Unfit, CheckSum}
+use Rattle.titles.specs.Places.{firstUnfit}
 
 abbrev pub isDigit : ℕ → Bool
 isDigit b = leb 48 b && leb b 57
@@ -24,9 +25,8 @@ abbrev pub mayStand : ℕ → ℕ → Bool
 mayStand i b = cond (eqb i 4) (eqb b 45) (cond (eqb i 8) (isCheck b) (isDigit b))
 
 -- the first place, counted from i, whose byte may not stand there
-abbrev pub firstUnfit : ℕ → List ℕ → Option ℕ
-firstUnfit i [] = None
-firstUnfit i (b ∷ bs) = cond (mayStand i b) (firstUnfit (i + 1) bs) (Some i)
+abbrev pub firstUnfitSign : ℕ → List ℕ → Option ℕ
+firstUnfitSign = firstUnfit mayStand
 
 -- what a check sign counts
 abbrev pub checkValue : ℕ → ℕ
@@ -49,11 +49,13 @@ readForm (Some i) bs = Err (Unfit i)
 readForm None bs = cond (eqb (weighted bs % 11) 0) (Ok bs) (Err CheckSum)
 
 abbrev pub readIssn : List ℕ → Result (List ℕ) IssnFault
-readIssn bs = cond (eqb (length bs) 9) (readForm (firstUnfit 0 bs) bs) (Err Length)
+readIssn bs = cond (eqb (length bs) 9) (readForm (firstUnfitSign 0 bs) bs) (Err Length)
 
-abbrev pub mapOk : {A B E : Type 0} → (A → B) → Result A E → Result B E
-mapOk f (Ok x) = Ok (f x)
-mapOk f (Err e) = Err e
+-- the byte at fault; a wrong length lies at none, and a wrong sum at the check sign
+abbrev pub issnFaultPlace : IssnFault → Option ℕ
+issnFaultPlace Length = None
+issnFaultPlace (Unfit i) = Some i
+issnFaultPlace CheckSum = Some 8
 
 abbrev pub digitAt : ℕ → ℕ → Result ℕ IssnFault
 digitAt b i = cond (isDigit b) (Ok (b - 48)) (Err (Unfit i))
@@ -67,7 +69,7 @@ unless None n = Ok n
 unless (Some i) n = Err (Unfit i)
 
 abbrev pub weighFront : ℕ → ℕ → ℕ → ℕ → Result ℕ IssnFault
-weighFront a b c d = unless (firstUnfit 0 (a ∷ b ∷ c ∷ d ∷ [])) (frontSum a b c d)
+weighFront a b c d = unless (firstUnfitSign 0 (a ∷ b ∷ c ∷ d ∷ [])) (frontSum a b c d)
 
 abbrev pub weighBack : ℕ → ℕ → ℕ → ℕ → Result ℕ IssnFault
-weighBack e f g k = unless (firstUnfit 5 (e ∷ f ∷ g ∷ k ∷ [])) (backSum e f g k)
+weighBack e f g k = unless (firstUnfitSign 5 (e ∷ f ∷ g ∷ k ∷ [])) (backSum e f g k)

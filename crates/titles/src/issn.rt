@@ -3,7 +3,11 @@ ghost use mathlib.Core.Path.{_≡_};
 ghost use mathlib.Core.Bool.{true};
 ghost use mathlib.Core.List.{[], _∷_};
 ghost use Rattle.std.specs.Results.{isOk};
-ghost use Rattle.titles.specs.Issns.{checkAt, digitAt, mapOk, readIssn, weighBack, weighFront};
+ghost use Rattle.titles.specs.Issns.{checkAt, digitAt, issnFaultPlace, readIssn, weighBack, weighFront};
+ghost use Rattle.titles.specs.Places.{mapOk};
+
+/// Where the check sign stands.
+const CHECK_PLACE: usize = 8;
 
 /// An ISSN, as it is written: four digits, a hyphen, three digits and a check sign.
 #[derive(Clone, Copy)]
@@ -21,6 +25,19 @@ pub enum IssnFault {
     Unfit { place: usize },
     /// They have the form, and the check sign does not fit the digits.
     CheckSum,
+}
+
+impl IssnFault {
+    /// The byte at fault. A wrong length lies at none, and a wrong sum at the check sign.
+    pub fn place(&self) -> Option<usize>
+        ensures { λ r. ⌜ r ≡ issnFaultPlace (now (self .entry)) ⌝ }
+    {
+        match *self {
+            IssnFault::Length => None,
+            IssnFault::Unfit { place } => Some(place),
+            IssnFault::CheckSum => Some(CHECK_PLACE),
+        }
+    }
 }
 
 impl Issn {
