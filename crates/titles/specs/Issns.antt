@@ -5,10 +5,12 @@ use mathlib.Core.Path.{_≡_}
 use Prim.Native.Nat.{ℕ, _+_, _-_, _*_, _%_, _<_, _≤_}
 use lib.Dec.{eqb, leb}
 use lib.ListN.{length, getD}
+use Rattle.std.specs.Results.{isOk}
 use Rattle.std.specs.declared.option.Option.{Option}
 use Rattle.std.specs.declared.option.Option.the-variants.{Some, None}
 use Rattle.std.specs.declared.result.Result.{Result}
 use Rattle.std.specs.declared.result.Result.the-variants.{Ok, Err}
+use Rattle.titles.specs.declared.issn.Issn.{Issn}
 use Rattle.titles.specs.declared.issn.IssnFault.{IssnFault}
 use Rattle.titles.specs.declared.issn.IssnFault.the-variants.{Length, Unfit, CheckSum}
 use Rattle.titles.specs.Places.{firstUnfit}
@@ -43,13 +45,17 @@ abbrev pub weighted : List ℕ → ℕ
 weighted bs =
     frontSum (getD bs 0 0) (getD bs 1 0) (getD bs 2 0) (getD bs 3 0) + backSum (getD bs 5 0) (getD bs 6 0) (getD bs 7 0) (getD bs 8 0)
 
--- the bytes themselves where they are an ISSN, else what is wrong: first the length, then the form, then the sum
-abbrev pub readForm : Option ℕ → List ℕ → Result (List ℕ) IssnFault
+-- the ISSN that shows as the bytes do, else what is wrong: first the length, then the form, then the sum
+abbrev pub readForm : Option ℕ → List ℕ → Result Issn IssnFault
 readForm (Some i) bs = Err (Unfit i)
-readForm None bs = cond (eqb (weighted bs % 11) 0) (Ok bs) (Err CheckSum)
+readForm None bs = cond (eqb (weighted bs % 11) 0) (Ok (record { bytes = bs })) (Err CheckSum)
 
-abbrev pub readIssn : List ℕ → Result (List ℕ) IssnFault
+abbrev pub readIssn : List ℕ → Result Issn IssnFault
 readIssn bs = cond (eqb (length bs) 9) (readForm (firstUnfitSign 0 bs) bs) (Err Length)
+
+-- whether the bytes are a right ISSN
+abbrev pub isIssn : List ℕ → Bool
+isIssn bs = isOk (readIssn bs)
 
 -- the byte at fault; a wrong length lies at none, and a wrong sum at the check sign
 abbrev pub issnFaultPlace : IssnFault → Option ℕ

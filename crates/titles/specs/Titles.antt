@@ -1,54 +1,60 @@
--- What a title says.
+-- What a title says, and what is wrong with one.
+use mathlib.Core.Bool.{Bool, true, _&&_}
 use mathlib.Core.List.{List, []}
 use Prim.Native.Nat.{ℕ}
-use lib.Chars.{codes}
+use Rattle.std.specs.Results.{isOk}
 use Rattle.std.specs.declared.option.Option.{Option}
 use Rattle.std.specs.declared.option.Option.the-variants.{Some, None}
 use Rattle.std.specs.declared.result.Result.{Result}
 use Rattle.std.specs.declared.result.Result.the-variants.{Ok, Err}
+use Rattle.texts.specs.Texts.{isText}
 use Rattle.titles.specs.declared.issn.Issn.{Issn}
+use Rattle.titles.specs.declared.issn.IssnFault.{IssnFault}
 use Rattle.titles.specs.declared.text.TextFault.{TextFault}
 use Rattle.titles.specs.declared.title.Title.{Title}
 use Rattle.titles.specs.declared.title.TitleFault.{TitleFault}
-use Rattle.titles.specs.declared.title.TitleFault.the-variants.{Name, Publisher}
+use Rattle.titles.specs.declared.title.TitleFault.the-variants.{Name, Publisher, Print, Online}
+use Rattle.titles.specs.Issns.{isIssn, readIssn}
+use Rattle.titles.specs.Places.{mapOk}
 use Rattle.titles.specs.Texts.{readText}
+
+-- what a title says, wherever its bytes lie
+pub record Entry : Type 0 where
+  pub name : List ℕ
+  pub publisher : List ℕ
+  pub print : Option Issn
+  pub online : Option Issn
+
+abbrev pub newEntry : List ℕ → List ℕ → Option Issn → Option Issn → Entry
+newEntry name publisher print online = record { name = name; publisher = publisher; print = print; online = online }
+
+abbrev pub entryOf : Title → Entry
+entryOf t = newEntry (t .name .now) (t .publisher .now) (t .print) (t .online)
 
 -- an ISSN as it is shown; a blank one shows no byte
 abbrev pub issnBytes : Option Issn → List ℕ
 issnBytes None = []
 issnBytes (Some issn) = issn .bytes
 
--- a title by what it shows
-pub record Entry : Type 0 where
-  pub name : List ℕ
-  pub publisher : List ℕ
-  pub print : List ℕ
-  pub online : List ℕ
+abbrev pub checkIssn : Option Issn → Result (Option Issn) IssnFault
+checkIssn None = Ok None
+checkIssn (Some issn) = mapOk Some (readIssn (issn .bytes))
 
-abbrev pub entryOf : Title → Entry
-entryOf t = record {
-  name = t .name .now;
-  publisher = t .publisher .now;
-  print = issnBytes (t .print);
-  online = issnBytes (t .online);
-}
+-- the second answer where the first is no fault
+abbrev pub unlessFault : {A B E : Type 0} → (E → TitleFault) → Result A E → Result B TitleFault → Result B TitleFault
+unlessFault which (Ok x) next = next
+unlessFault which (Err fault) next = Err (which fault)
 
--- the name is judged first
-abbrev pub entryWith : Result (List ℕ) TextFault → Result (List ℕ) TextFault → List ℕ → List ℕ → Result Entry TitleFault
-entryWith (Err fault) publisher print online = Err (Name fault)
-entryWith (Ok name) (Err fault) print online = Err (Publisher fault)
-entryWith (Ok name) (Ok publisher) print online = Ok (record { name = name; publisher = publisher; print = print; online = online })
+-- the entry itself where each part is what it should be, else the first fault: name, publisher, print and online ISSN
+abbrev pub judge : Entry → Result Entry TitleFault
+judge e =
+    unlessFault Name (readText (e .name)) (unlessFault Publisher (readText (e .publisher)) (unlessFault Print (checkIssn (e .print)) (unlessFault Online (checkIssn (e .online)) (Ok e))))
 
-abbrev pub newEntry : List ℕ → List ℕ → List ℕ → List ℕ → Result Entry TitleFault
-newEntry name publisher print online = entryWith (readText name) (readText publisher) print online
+-- blank, or a right ISSN
+abbrev pub isBlankOrIssn : Option Issn → Bool
+isBlankOrIssn None = true
+isBlankOrIssn (Some issn) = isIssn (issn .bytes)
 
--- what a table's entry holds before a title is put there
-abbrev pub untitled : Entry
-untitled = record { name = codes "Untitled"; publisher = codes "Unknown"; print = []; online = [] }
-
-abbrev pub orElse : {A E : Type 0} → Result A E → A → A
-orElse (Ok x) y = x
-orElse (Err e) y = y
-
-abbrev pub unit : Entry → Unit {0}
-unit _ = tt
+-- the name and the publisher are texts, and each ISSN is a right one or blank
+abbrev pub isEntry : Entry → Bool
+isEntry e = isText (e .name) && isText (e .publisher) && isBlankOrIssn (e .print) && isBlankOrIssn (e .online)

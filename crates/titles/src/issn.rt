@@ -1,10 +1,6 @@
 //! International Standard Serial Numbers, as ISO 3297 has them.
 ghost use mathlib.Core.Path.{_≡_};
-ghost use mathlib.Core.Bool.{true};
-ghost use mathlib.Core.List.{[], _∷_};
-ghost use Rattle.std.specs.Results.{isOk};
 ghost use Rattle.titles.specs.Issns.{checkAt, digitAt, issnFaultPlace, readIssn, weighBack, weighFront};
-ghost use Rattle.titles.specs.Places.{mapOk};
 
 /// Where the check sign stands.
 const CHECK_PLACE: usize = 8;
@@ -13,7 +9,6 @@ const CHECK_PLACE: usize = 8;
 #[derive(Clone, Copy)]
 pub struct Issn {
     bytes: [u8; 9],
-    ghost right: { isOk (readIssn bytes) ≡ true },
 }
 
 /// What is wrong with bytes that are no ISSN.
@@ -51,7 +46,7 @@ impl Issn {
 
 /// Reads an ISSN: the first seven digits times 8 down to 2, and the check sign, sum to a multiple of 11.
 pub fn read_issn(bytes: &[u8]) -> Result<Issn, IssnFault>
-    ensures { λ r. ⌜ mapOk (λ issn. issn .bytes) r ≡ readIssn (now (bytes .entry)) ⌝ }
+    ensures { λ r. ⌜ r ≡ readIssn (now (bytes .entry)) ⌝ }
 {
     match bytes {
         [a, b, c, d, b'-', e, f, g, check] => {
