@@ -17,17 +17,17 @@ use Rattle.titles.specs.declared.issn.IssnFault.the-variants.{Length, Unfit, C
 use Rattle.titles.specs.Issns.{backSum, frontSum, isCheck, isDigit, readForm, readIssn, unless, weighBack, weighFront, weighted}
 
 -- what the halves and the hyphen between them make of the bytes
-abbrev joined : Result ℕ IssnFault → Bool → Result ℕ IssnFault → List ℕ → Result Issn IssnFault
+abbrev pub joined : Result ℕ IssnFault → Bool → Result ℕ IssnFault → List ℕ → Result Issn IssnFault
 joined (Err x) hyphen back bs = Err x
 joined (Ok m) false back bs = Err (Unfit 4)
 joined (Ok m) true (Err x) bs = Err x
 joined (Ok m) true (Ok n) bs = cond (eqb ((m + n) % 11) 0) (Ok (record { bytes = bs })) (Err CheckSum)
 
 -- the first of four places whose test fails, else what the rest gives
-abbrev four : Bool → Bool → Bool → Bool → ℕ → ℕ → ℕ → ℕ → Option ℕ → Option ℕ
+abbrev pub four : Bool → Bool → Bool → Bool → ℕ → ℕ → ℕ → ℕ → Option ℕ → Option ℕ
 four p q r s i j k l rest = cond p (cond q (cond r (cond s rest (Some l)) (Some k)) (Some j)) (Some i)
 
-by-tests : (p q r s h t u v w : Bool) (m n : ℕ) (bs : List ℕ) → weighted bs ≡ m + n → readForm (four p q r s 0 1 2 3 (cond h (four t u v w 5 6 7 8 None) (Some 4))) bs ≡ joined (unless (four p q r s 0 1 2 3 None) m) h (unless (four t u v w 5 6 7 8 None) n) bs
+pub by-tests : (p q r s h t u v w : Bool) (m n : ℕ) (bs : List ℕ) → weighted bs ≡ m + n → readForm (four p q r s 0 1 2 3 (cond h (four t u v w 5 6 7 8 None) (Some 4))) bs ≡ joined (unless (four p q r s 0 1 2 3 None) m) h (unless (four t u v w 5 6 7 8 None) n) bs
 by-tests false q r s h t u v w m n bs e = refl
 by-tests true false r s h t u v w m n bs e = refl
 by-tests true true false s h t u v w m n bs e = refl
@@ -41,22 +41,22 @@ by-tests true true true true true true true true true m n bs e =
     ap (λ x. cond (eqb (x % 11) 0) (Ok (record { bytes = bs })) (Err CheckSum)) e
 
 module _ (s : List ℕ) (l : length s ≡ 9) where
-  abbrev at : ℕ → ℕ
+  abbrev pub at : ℕ → ℕ
   at i = getD s i 0
 
-  abbrev nine : List ℕ
+  abbrev pub nine : List ℕ
   nine = at 0 ∷ at 1 ∷ at 2 ∷ at 3 ∷ at 4 ∷ at 5 ∷ at 6 ∷ at 7 ∷ at 8 ∷ []
 
-  abbrev front : Result ℕ IssnFault
+  abbrev pub front : Result ℕ IssnFault
   front = weighFront (at 0) (at 1) (at 2) (at 3)
 
-  abbrev back : Result ℕ IssnFault
+  abbrev pub back : Result ℕ IssnFault
   back = weighBack (at 5) (at 6) (at 7) (at 8)
 
-  spelled : s ≡ nine
+  pub spelled : s ≡ nine
   spelled = text-from-reads s nine l (refl, (refl, (refl, (refl, (refl, (refl, (refl, (refl, (refl, tt)))))))))
 
-  by-halves : readIssn s ≡ joined front (eqb (at 4) 45) back s
+  pub by-halves : readIssn s ≡ joined front (eqb (at 4) 45) back s
   by-halves =
       ap readIssn spelled ∙ by-tests (isDigit (at 0)) (isDigit (at 1)) (isDigit (at 2)) (isDigit (at 3)) (eqb (at 4) 45) (isDigit (at 5)) (isDigit (at 6)) (isDigit (at 7)) (isCheck (at 8)) (frontSum (at 0) (at 1) (at 2) (at 3)) (backSum (at 5) (at 6) (at 7) (at 8)) nine refl ∙ ap (joined front (eqb (at 4) 45) back) (sym spelled)
 

@@ -1,2 +1,3 @@
 pub mod Fitness
 pub mod Halves
+pub mod Spelled

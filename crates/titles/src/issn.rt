@@ -1,6 +1,9 @@
 //! International Standard Serial Numbers, as ISO 3297 has them.
 ghost use mathlib.Core.Path.{_≡_};
+ghost use Rattle.std.specs.Orderings.{Decides};
+ghost use Rattle.std.specs.Results.{isOk};
 ghost use Rattle.titles.specs.Issns.{checkAt, digitAt, issnFaultPlace, readIssn, weighBack, weighFront};
+ghost use Rattle.titles.specs.Spelling.{Right};
 
 /// Where the check sign stands.
 const CHECK_PLACE: usize = 8;
@@ -46,7 +49,8 @@ impl Issn {
 
 /// Reads an ISSN: the first seven digits times 8 down to 2, and the check sign, sum to a multiple of 11.
 pub fn read_issn(bytes: &[u8]) -> Result<Issn, IssnFault>
-    ensures { λ r. ⌜ r ≡ readIssn (now (bytes .entry)) ⌝ }
+    ensures read { λ r. ⌜ r ≡ readIssn (now (bytes .entry)) ⌝ }
+    ensures right { λ r. ⌜ Decides (isOk r) (Right (now (bytes .entry))) ⌝ }
 {
     match bytes {
         [a, b, c, d, b'-', e, f, g, check] => {

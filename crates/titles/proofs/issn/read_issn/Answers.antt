@@ -1,51 +1,59 @@
-use mathlib.Core.Bool.{cond}
+-- Each way of the reading gives what the definition says, and with it what is right.
 use mathlib.Core.Path.{_≡_, sym, ap, _∙_}
 use native.Mathlib.Omega.{arith}
 use borrow.Author.Needs.{needs}
 use lib.ListN.{length, getD}
 use Rattle.std.proofs.shelf.Results.{err-from-errBy}
-use Rattle.std.proofs.shelf.Tests.{eq-eqb, ne-eqb}
-use Rattle.std.specs.declared.result.Result.the-variants.{Ok, Err}
-use Rattle.titles.specs.declared.issn.IssnFault.the-variants.{CheckSum}
+use Rattle.std.specs.declared.result.Result.the-variants.{Err}
 use Rattle.titles.proofs.Halves.{at-back, at-check-sum, at-end, at-front, at-hyphen}
+use Rattle.titles.proofs.Spelled.{accepts}
 use Rattle.titles.proofs.issn.read_issn.Needs as need
 
 pub returns-in-Break-front : need.returns-in-Break-front
 returns-in-Break-front c =
-    let l : length (c .args .bytes .now) ≡ 9 = search needs in
+    let bs = c .args .bytes .now in
+    let l : length bs ≡ 9 = search needs in
     let p = err-from-errBy (c .from-residual .result) (c .from-residual .ensures .1) in
-    let r = at-front (c .args .bytes .now) l _ (c .in-Break-front .ensures tt) in
-    rw (p .1, p .2) (sym r)
+    let e = p .1 ∙ ap Err (p .2) ∙ sym (at-front bs l _ (c .in-Break-front .ensures tt)) in
+    record { read = e; right = accepts bs _ e }
 
 pub returns-in-Break-back : need.returns-in-Break-back
 returns-in-Break-back c =
-    let l : length (c .args .bytes .now) ≡ 9 = search needs in
-    let h : getD (c .args .bytes .now) 4 0 ≡ 45 = omega arith in
+    let bs = c .args .bytes .now in
+    let l : length bs ≡ 9 = search needs in
+    let h : getD bs 4 0 ≡ 45 = omega arith in
     let p = err-from-errBy (c .from-residual-in-Break-back .result) (c .from-residual-in-Break-back .ensures .1) in
-    let r = at-back (c .args .bytes .now) l _ _ (c .in-Continue-front .ensures tt) h (c .in-Break-back .ensures tt) in
-    rw (p .1, p .2) (sym r)
+    let e = p .1 ∙ ap Err (p .2) ∙ sym (at-back bs l _ _ (c .in-Continue-front .ensures tt) h (c .in-Break-back .ensures tt)) in
+    record { read = e; right = accepts bs _ e }
 
 pub returns-then-front-back-ne0 : need.returns-then-front-back-ne0
 returns-then-front-back-ne0 c =
-    let l : length (c .args .bytes .now) ≡ 9 = search needs in
-    let h : getD (c .args .bytes .now) 4 0 ≡ 45 = omega arith in
-    sym (at-check-sum (c .args .bytes .now) l _ _ (c .in-Continue-front .ensures tt) h (c .in-Continue-back .ensures tt) (c .if-front-back-ne0 .taken))
+    let bs = c .args .bytes .now in
+    let l : length bs ≡ 9 = search needs in
+    let h : getD bs 4 0 ≡ 45 = omega arith in
+    let e = sym (at-check-sum bs l _ _ (c .in-Continue-front .ensures tt) h (c .in-Continue-back .ensures tt) (c .if-front-back-ne0 .taken)) in
+    record { read = e; right = accepts bs _ e }
 
 pub returns-in-Break-weigh-front : need.returns-in-Break-weigh-front
 returns-in-Break-weigh-front c =
-    let l : length (c .args .bytes .now) ≡ 9 = search needs in
+    let bs = c .args .bytes .now in
+    let l : length bs ≡ 9 = search needs in
     let p = err-from-errBy (c .from-residual-in-Break-weigh-front .result) (c .from-residual-in-Break-weigh-front .ensures .1) in
-    let r = at-front (c .args .bytes .now) l _ (c .in-Break-weigh-front .ensures tt) in
-    rw (p .1, p .2) (sym r)
+    let e = p .1 ∙ ap Err (p .2) ∙ sym (at-front bs l _ (c .in-Break-weigh-front .ensures tt)) in
+    record { read = e; right = accepts bs _ e }
 
 pub returns-else-front-back-ne0 : need.returns-else-front-back-ne0
 returns-else-front-back-ne0 c =
-    let l : length (c .args .bytes .now) ≡ 9 = search needs in
-    let h : getD (c .args .bytes .now) 4 0 ≡ 45 = omega arith in
-    sym (at-end (c .args .bytes .now) l _ _ (c .in-Continue-front .ensures tt) h (c .in-Continue-back .ensures tt) (c .if-front-back-ne0 .left))
+    let bs = c .args .bytes .now in
+    let l : length bs ≡ 9 = search needs in
+    let h : getD bs 4 0 ≡ 45 = omega arith in
+    let e = sym (at-end bs l _ _ (c .in-Continue-front .ensures tt) h (c .in-Continue-back .ensures tt) (c .if-front-back-ne0 .left)) in
+    record { read = e; right = accepts bs _ e }
 
 pub returns-in-Continue-weigh-front : need.returns-in-Continue-weigh-front
 returns-in-Continue-weigh-front c =
-    let l : length (c .args .bytes .now) ≡ 9 = search needs in
-    let h : getD (c .args .bytes .now) 4 0 ≡ 45 → ⊥ = λ e. omega arith in
-    sym (at-hyphen (c .args .bytes .now) l _ (c .in-Continue-weigh-front .ensures tt) h)
+    let bs = c .args .bytes .now in
+    let l : length bs ≡ 9 = search needs in
+    let h : getD bs 4 0 ≡ 45 → ⊥ = λ e. omega arith in
+    let e = sym (at-hyphen bs l _ (c .in-Continue-weigh-front .ensures tt) h) in
+    record { read = e; right = accepts bs _ e }
