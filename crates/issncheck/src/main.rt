@@ -1,20 +1,34 @@
 //! Checks ISSNs, right and wrong ones, and prints for each what `read_issn` says of it.
+ghost use mathlib.Core.Bool.{cond};
 ghost use mathlib.Core.List.{[], _∷_};
 ghost use mathlib.Core.Path.{_≡_};
 ghost use Prim.Native.Nat.{_+_, _<_};
+ghost use lib.Dec.{ltb};
 ghost use lib.ListN.{getD, set};
 use std::error::AnyError;
 use std::str::from_utf8;
-use titles::read_issn;
 use titles::IssnFault;
+use titles::read_issn;
 
 /// The digits and the check sign of an ISSN, without its hyphen.
 type Signs = [u8; 8];
 
 /// ISSNs that are in use, and some that are right by the rule alone.
 const RIGHT: [Signs; 14] = [
-    *b"03178471", *b"1050124X", *b"03785955", *b"2434561X", *b"20493630", *b"00280836", *b"14764687",
-    *b"00368075", *b"01406736", *b"1474547X", *b"00278424", *b"12345679", *b"99999994", *b"0000006X",
+    *b"03178471",
+    *b"1050124X",
+    *b"03785955",
+    *b"2434561X",
+    *b"20493630",
+    *b"00280836",
+    *b"14764687",
+    *b"00368075",
+    *b"01406736",
+    *b"1474547X",
+    *b"00278424",
+    *b"12345679",
+    *b"99999994",
+    *b"0000006X",
 ];
 
 /// With its hyphen behind the fourth digit.
@@ -39,6 +53,7 @@ fn exchanged(signs: Signs, place: usize) -> Signs
 /// With the next digit in the place of a sign, and 0 after 9 and X.
 fn changed(signs: Signs, place: usize) -> Signs
     requires { ⌜ place < 8 ⌝ }
+    ensures { λ r. ⌜ r ≡ set signs place (cond (ltb (getD signs place 0) 57) (getD signs place 0 + 1) 48) ⌝ }
 {
     let mut other = signs;
     let sign = signs[place];

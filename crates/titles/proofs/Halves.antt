@@ -14,7 +14,8 @@ use Rattle.std.specs.declared.result.Result.the-variants.{Ok, Err}
 use Rattle.titles.specs.declared.issn.Issn.{Issn}
 use Rattle.titles.specs.declared.issn.IssnFault.{IssnFault}
 use Rattle.titles.specs.declared.issn.IssnFault.the-variants.{Length, Unfit, CheckSum}
-use Rattle.titles.specs.Issns.{backSum, frontSum, isCheck, isDigit, readForm, readIssn, unless, weighBack, weighFront, weighted}
+use Rattle.titles.specs.Issns.{isCheck, isDigit, readIssn, readNine, weighted}
+use Rattle.titles.specs.Weighing.{backSum, frontSum, unless, weighBack, weighFront}
 
 -- what the halves and the hyphen between them make of the bytes
 abbrev pub joined : Result ℕ IssnFault → Bool → Result ℕ IssnFault → List ℕ → Result Issn IssnFault
@@ -27,7 +28,7 @@ joined (Ok m) true (Ok n) bs = cond (eqb ((m + n) % 11) 0) (Ok (record { bytes =
 abbrev pub four : Bool → Bool → Bool → Bool → ℕ → ℕ → ℕ → ℕ → Option ℕ → Option ℕ
 four p q r s i j k l rest = cond p (cond q (cond r (cond s rest (Some l)) (Some k)) (Some j)) (Some i)
 
-pub by-tests : (p q r s h t u v w : Bool) (m n : ℕ) (bs : List ℕ) → weighted bs ≡ m + n → readForm (four p q r s 0 1 2 3 (cond h (four t u v w 5 6 7 8 None) (Some 4))) bs ≡ joined (unless (four p q r s 0 1 2 3 None) m) h (unless (four t u v w 5 6 7 8 None) n) bs
+pub by-tests : (p q r s h t u v w : Bool) (m n : ℕ) (bs : List ℕ) → weighted bs ≡ m + n → readNine (four p q r s 0 1 2 3 (cond h (four t u v w 5 6 7 8 None) (Some 4))) bs ≡ joined (unless (four p q r s 0 1 2 3 None) m) h (unless (four t u v w 5 6 7 8 None) n) bs
 by-tests false q r s h t u v w m n bs e = refl
 by-tests true false r s h t u v w m n bs e = refl
 by-tests true true false s h t u v w m n bs e = refl

@@ -16,9 +16,10 @@ use Rattle.std.specs.declared.result.Result.the-variants.{Ok, Err}
 use Rattle.titles.specs.declared.issn.Issn.{Issn}
 use Rattle.titles.specs.declared.issn.IssnFault.{IssnFault}
 use Rattle.titles.specs.declared.issn.IssnFault.the-variants.{Length, CheckSum}
-use Rattle.titles.specs.Issns.{backSum, checkValue, firstUnfitSign, frontSum, isCheck, isDigit, readForm, readIssn, unless, weighted}
+use Rattle.titles.specs.Issns.{checkValue, firstUnfitSign, isCheck, isDigit, readIssn, readNine, weighted}
 use Rattle.titles.proofs.Halves.{by-halves, four, joined, spelled}
 use Rattle.titles.specs.Spelling.{Right, checkSign, digit}
+use Rattle.titles.specs.Weighing.{backSum, frontSum, unless}
 
 digit-stands : (n : ℕ) → n < 10 → isDigit (digit n) ≡ true
 digit-stands n h = grind (arith, tells)
@@ -40,18 +41,27 @@ regroup : (a b c d e f g k : ℕ) → 8 * a + 7 * b + 6 * c + 5 * d + 4 * e + 3 
 regroup a b c d e f g k = omega arith
 
 -- where every test passes, the sum decides
-all-stand : (p q r s t u v w : Bool) (bs : List ℕ) → p ≡ true → q ≡ true → r ≡ true → s ≡ true → t ≡ true → u ≡ true → v ≡ true → w ≡ true → readForm (four p q r s 0 1 2 3 (four t u v w 5 6 7 8 None)) bs ≡ readForm None bs
+all-stand : (p q r s t u v w : Bool) (bs : List ℕ) → p ≡ true → q ≡ true → r ≡ true → s ≡ true → t ≡ true → u ≡ true → v ≡ true → w ≡ true → readNine (four p q r s 0 1 2 3 (four t u v w 5 6 7 8 None)) bs ≡ readNine None bs
 all-stand p q r s t u v w bs a b c d e f g k = simp (a, b, c, d, e, f, g, k)
 
-right-reads : (bs : List ℕ) → Right bs → readIssn bs ≡ Ok (record { bytes = bs })
-right-reads bs r =
-    let ds = r .digits in
-    let s = digit (r .a) ∷ digit (r .b) ∷ digit (r .c) ∷ digit (r .d) ∷ 45 ∷ digit (r .e) ∷ digit (r .f) ∷ digit (r .g) ∷ checkSign (r .check) ∷ [] in
-    let v = check-value (r .check) (r .value) in
-    let n = 8 * r .a + 7 * r .b + 6 * r .c + 5 * r .d + 4 * r .e + 3 * r .f + 2 * r .g + r .check in
-    let e : weighted s ≡ n = omega arith in
-    let y = all-stand _ _ _ _ _ _ _ _ s (digit-stands (r .a) (ds .0)) (digit-stands (r .b) (ds .1)) (digit-stands (r .c) (ds .2)) (digit-stands (r .d) (ds .3)) (digit-stands (r .e) (ds .4)) (digit-stands (r .f) (ds .5)) (digit-stands (r .g) (ds .6)) (check-stands (r .check) (r .value)) in
-    ap readIssn (r .written) ∙ y ∙ ap (λ m. cond (eqb (m % 11) 0) (Ok (record { bytes = s })) (Err CheckSum)) e ∙ ap (λ t. cond t (Ok (record { bytes = s })) (Err CheckSum)) (eq-eqb (n % 11) 0 (r .sum)) ∙ ap (λ x. Ok (record { bytes = x })) (sym (r .written))
+module _ (bs : List ℕ) (r : Right bs) where
+  abbrev spelling : List ℕ
+  spelling = digit (r .a) ∷ digit (r .b) ∷ digit (r .c) ∷ digit (r .d) ∷ 45 ∷ digit (r .e) ∷ digit (r .f) ∷ digit (r .g) ∷ checkSign (r .check) ∷ []
+
+  spelling-stands : readIssn spelling ≡ readNine None spelling
+  spelling-stands =
+      let ds = r .digits in
+      all-stand _ _ _ _ _ _ _ _ spelling (digit-stands (r .a) (ds .0)) (digit-stands (r .b) (ds .1)) (digit-stands (r .c) (ds .2)) (digit-stands (r .d) (ds .3)) (digit-stands (r .e) (ds .4)) (digit-stands (r .f) (ds .5)) (digit-stands (r .g) (ds .6)) (check-stands (r .check) (r .value))
+
+  spelling-sums : weighted spelling % 11 ≡ 0
+  spelling-sums =
+      let v = check-value (r .check) (r .value) in
+      let e : weighted spelling ≡ 8 * r .a + 7 * r .b + 6 * r .c + 5 * r .d + 4 * r .e + 3 * r .f + 2 * r .g + r .check = omega arith in
+      ap (λ n. n % 11) e ∙ r .sum
+
+  right-reads : isOk (readIssn bs) ≡ true
+  right-reads =
+      ap (λ x. isOk (readIssn x)) (r .written) ∙ ap isOk spelling-stands ∙ ap (λ t. isOk {T = Issn} (cond t (Ok (record { bytes = spelling })) (Err CheckSum))) (eq-eqb (weighted spelling % 11) 0 spelling-sums)
 
 -- where the halves are accepted, every test passed
 passed : {E : Type 0} (t : Bool) (x : Result Issn E) (fault : E) → isOk (cond t x (Err fault)) ≡ true → t ≡ true
@@ -73,7 +83,7 @@ tests-passed true true true true true true true true true m n bs e =
 
 module _ (s : List ℕ) (accepted : isOk (readIssn s) ≡ true) where
   nine-long : length s ≡ 9
-  nine-long = eqb-true (length s) 9 (passed (eqb (length s) 9) (readForm (firstUnfitSign 0 s) s) Length accepted)
+  nine-long = eqb-true (length s) 9 (passed (eqb (length s) 9) (readNine (firstUnfitSign 0 s) s) Length accepted)
 
   accepted-right : Right s
   accepted-right =
@@ -105,4 +115,4 @@ module _ (s : List ℕ) (accepted : isOk (readIssn s) ≡ true) where
 
 -- a reading accepts exactly what is right
 pub accepts : (bs : List ℕ) (r : Result Issn IssnFault) → r ≡ readIssn bs → Decides (isOk r) (Right bs)
-accepts bs r e = (λ ok. accepted-right bs (ap isOk (sym e) ∙ ok), λ right. ap isOk (e ∙ right-reads bs right))
+accepts bs r e = (λ ok. accepted-right bs (ap isOk (sym e) ∙ ok), λ right. ap isOk e ∙ right-reads bs right)

@@ -2,13 +2,19 @@
 ghost use mathlib.Core.Path.{_≡_};
 ghost use Rattle.std.specs.Orderings.{Decides};
 ghost use Rattle.std.specs.Results.{isOk};
-ghost use Rattle.titles.specs.Issns.{checkAt, digitAt, issnFaultPlace, readIssn, weighBack, weighFront};
+ghost use Rattle.titles.specs.Issns.{issnFaultPlace, readIssn};
 ghost use Rattle.titles.specs.Spelling.{Right};
+ghost use Rattle.titles.specs.Weighing.{checkAt, digitAt, weighBack, weighFront};
+
+/// Where the hyphen stands.
+const HYPHEN_PLACE: usize = 4;
 
 /// Where the check sign stands.
 const CHECK_PLACE: usize = 8;
 
 /// An ISSN, as it is written: four digits, a hyphen, three digits and a check sign.
+///
+/// Only `read_issn` makes one.
 #[derive(Clone, Copy)]
 pub struct Issn {
     bytes: [u8; 9],
@@ -47,7 +53,10 @@ impl Issn {
     }
 }
 
-/// Reads an ISSN: the first seven digits times 8 down to 2, and the check sign, sum to a multiple of 11.
+/// Reads an ISSN.
+///
+/// The first seven digits times 8 down to 2, and the check sign, sum to a multiple of 11. A length other than nine
+/// is found first, then the first byte that may not stand at its place, and a wrong sum last.
 pub fn read_issn(bytes: &[u8]) -> Result<Issn, IssnFault>
     ensures read { λ r. ⌜ r ≡ readIssn (now (bytes .entry)) ⌝ }
     ensures right { λ r. ⌜ Decides (isOk r) (Right (now (bytes .entry))) ⌝ }
@@ -59,11 +68,15 @@ pub fn read_issn(bytes: &[u8]) -> Result<Issn, IssnFault>
             if (front + back) % 11 != 0 {
                 return Err(IssnFault::CheckSum);
             }
-            Ok(Issn { bytes: [*a, *b, *c, *d, b'-', *e, *f, *g, *check] })
+            Ok(Issn {
+                bytes: [*a, *b, *c, *d, b'-', *e, *f, *g, *check],
+            })
         }
         [a, b, c, d, _, _, _, _, _] => {
             weigh_front(*a, *b, *c, *d)?;
-            Err(IssnFault::Unfit { place: 4 })
+            Err(IssnFault::Unfit {
+                place: HYPHEN_PLACE,
+            })
         }
         _ => Err(IssnFault::Length),
     }
@@ -83,6 +96,7 @@ fn weigh_back(e: u8, f: u8, g: u8, check: u8) -> Result<u32, IssnFault>
     Ok(4 * digit(e, 5)? + 3 * digit(f, 6)? + 2 * digit(g, 7)? + check_sign(check)?)
 }
 
+/// What a digit counts.
 fn digit(byte: u8, place: usize) -> Result<u32, IssnFault>
     ensures { λ r. ⌜ r ≡ digitAt byte place ⌝ }
 {
@@ -92,12 +106,12 @@ fn digit(byte: u8, place: usize) -> Result<u32, IssnFault>
     }
 }
 
-/// A digit, or a capital X for 10.
+/// What the check sign counts: as a digit does, and a capital X 10.
 fn check_sign(byte: u8) -> Result<u32, IssnFault>
     ensures { λ r. ⌜ r ≡ checkAt byte 8 ⌝ }
 {
     match byte {
         b'X' => Ok(10),
-        _ => digit(byte, 8),
+        _ => digit(byte, CHECK_PLACE),
     }
 }

@@ -4,8 +4,8 @@ ghost use Rattle.std.specs.Results.{isOk};
 ghost use Rattle.texts.specs.Texts.{isText};
 ghost use Rattle.titles.specs.Places.{mapOk};
 ghost use Rattle.titles.specs.Texts.{firstUnfitByte, readText, textFaultPlace};
-use texts::is_fit;
 use texts::LONGEST;
+use texts::is_fit;
 
 /// Why bytes are no text.
 #[derive(Clone, Copy)]

@@ -3,15 +3,15 @@ ghost use mathlib.Core.Path.{_≡_};
 ghost use Rattle.std.specs.Results.{isOk};
 ghost use Rattle.titles.specs.Places.{mapOk};
 ghost use Rattle.titles.specs.Titles.{checkIssn, entryOf, isEntry, judge, newEntry};
-use crate::issn::read_issn;
 use crate::issn::Issn;
 use crate::issn::IssnFault;
-use crate::text::check_text;
+use crate::issn::read_issn;
 use crate::text::TextFault;
+use crate::text::check_text;
 
 /// A journal: its name, its publisher, and the ISSNs of its printed and its online issues, each of which may be blank.
 ///
-/// Any bytes may stand in the name and the publisher: `check` tells whether both are texts.
+/// Any bytes may stand in the name and the publisher. `check` tells whether they are texts.
 #[derive(Clone, Copy)]
 pub struct Title<'a> {
     pub name: &'a [u8],
@@ -39,7 +39,12 @@ impl<'a> Title<'a> {
     ) -> Result<Title<'a>, TitleFault>
         ensures { λ r. ⌜ mapOk entryOf r ≡ judge (newEntry (now (name .entry)) (now (publisher .entry)) print online) ⌝ }
     {
-        let title = Title { name, publisher, print, online };
+        let title = Title {
+            name,
+            publisher,
+            print,
+            online,
+        };
         title.check()?;
         Ok(title)
     }
@@ -65,6 +70,7 @@ impl<'a> Title<'a> {
     }
 }
 
+/// Checks that an ISSN is a right one or blank.
 fn check_issn(issn: Option<Issn>) -> Result<(), IssnFault>
     ensures { λ r. ⌜ mapOk (λ _. issn) r ≡ checkIssn issn ⌝ }
 {
