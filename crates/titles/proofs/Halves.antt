@@ -14,7 +14,7 @@ use Rattle.std.specs.declared.result.Result.the-variants.{Ok, Err}
 use Rattle.titles.specs.declared.issn.Issn.{Issn}
 use Rattle.titles.specs.declared.issn.IssnFault.{IssnFault}
 use Rattle.titles.specs.declared.issn.IssnFault.the-variants.{Length, Unfit, CheckSum}
-use Rattle.titles.specs.Issns.{isCheck, isDigit, readIssn, readNine, weighted}
+use Rattle.titles.specs.Issns.{isCheck, isDigit, readIssn, readNine, rightSum, weighted}
 use Rattle.titles.specs.Weighing.{backSum, frontSum, unless, weighBack, weighFront}
 
 -- what the halves and the hyphen between them make of the bytes
@@ -22,7 +22,7 @@ abbrev pub joined : Result ℕ IssnFault → Bool → Result ℕ IssnFault → L
 joined (Err x) hyphen back bs = Err x
 joined (Ok m) false back bs = Err (Unfit 4)
 joined (Ok m) true (Err x) bs = Err x
-joined (Ok m) true (Ok n) bs = cond (eqb ((m + n) % 11) 0) (Ok (record { bytes = bs })) (Err CheckSum)
+joined (Ok m) true (Ok n) bs = cond (rightSum (m + n)) (Ok (record { bytes = bs })) (Err CheckSum)
 
 -- the first of four places whose test fails, else what the rest gives
 abbrev pub four : Bool → Bool → Bool → Bool → ℕ → ℕ → ℕ → ℕ → Option ℕ → Option ℕ
@@ -39,7 +39,7 @@ by-tests true true true true true true false v w m n bs e = refl
 by-tests true true true true true true true false w m n bs e = refl
 by-tests true true true true true true true true false m n bs e = refl
 by-tests true true true true true true true true true m n bs e =
-    ap (λ x. cond (eqb (x % 11) 0) (Ok (record { bytes = bs })) (Err CheckSum)) e
+    ap (λ x. cond (rightSum x) (Ok (record { bytes = bs })) (Err CheckSum)) e
 
 module _ (s : List ℕ) (l : length s ≡ 9) where
   abbrev pub at : ℕ → ℕ
@@ -71,13 +71,6 @@ module _ (s : List ℕ) (l : length s ≡ 9) where
   pub at-back : (m : ℕ) (x : IssnFault) → Ok m ≡ front → at 4 ≡ 45 → Err x ≡ back → readIssn s ≡ Err x
   at-back m x e h f = by-halves ∙ (λ i. joined (sym e i) (eq-eqb (at 4) 45 h i) (sym f i) s)
 
-  at-sum : (m n : ℕ) → Ok m ≡ front → at 4 ≡ 45 → Ok n ≡ back → readIssn s ≡ cond (eqb ((m + n) % 11) 0) (Ok (record { bytes = s })) (Err CheckSum)
-  at-sum m n e h f = by-halves ∙ (λ i. joined (sym e i) (eq-eqb (at 4) 45 h i) (sym f i) s)
-
-  pub at-check-sum : (m n : ℕ) → Ok m ≡ front → at 4 ≡ 45 → Ok n ≡ back → ((m + n) % 11 ≡ 0 → ⊥) → readIssn s ≡ Err CheckSum
-  at-check-sum m n e h f w =
-      at-sum m n e h f ∙ ap (λ t. cond t (Ok (record { bytes = s })) (Err CheckSum)) (ne-eqb ((m + n) % 11) 0 w)
-
-  pub at-end : (m n : ℕ) → Ok m ≡ front → at 4 ≡ 45 → Ok n ≡ back → (m + n) % 11 ≡ 0 → readIssn s ≡ Ok (record { bytes = at 0 ∷ at 1 ∷ at 2 ∷ at 3 ∷ 45 ∷ at 5 ∷ at 6 ∷ at 7 ∷ at 8 ∷ [] })
-  at-end m n e h f w =
-      at-sum m n e h f ∙ ap (λ t. cond t (Ok (record { bytes = s })) (Err CheckSum)) (eq-eqb ((m + n) % 11) 0 w) ∙ ap (λ y. Ok (record { bytes = y })) spelled ∙ ap (λ y. Ok (record { bytes = at 0 ∷ at 1 ∷ at 2 ∷ at 3 ∷ y ∷ at 5 ∷ at 6 ∷ at 7 ∷ at 8 ∷ [] })) h
+  pub at-sum : (m n : ℕ) (t : Bool) → Ok m ≡ front → at 4 ≡ 45 → Ok n ≡ back → t ≡ rightSum (m + n) → readIssn s ≡ cond t (Ok (record { bytes = at 0 ∷ at 1 ∷ at 2 ∷ at 3 ∷ 45 ∷ at 5 ∷ at 6 ∷ at 7 ∷ at 8 ∷ [] })) (Err CheckSum)
+  at-sum m n t e h f w =
+      by-halves ∙ (λ i. joined (sym e i) (eq-eqb (at 4) 45 h i) (sym f i) s) ∙ ap (λ x. cond x (Ok (record { bytes = s })) (Err CheckSum)) (sym w) ∙ ap (λ x. cond t (Ok (record { bytes = x })) (Err CheckSum)) spelled ∙ ap (λ x. cond t (Ok (record { bytes = at 0 ∷ at 1 ∷ at 2 ∷ at 3 ∷ x ∷ at 5 ∷ at 6 ∷ at 7 ∷ at 8 ∷ [] })) (Err CheckSum)) h

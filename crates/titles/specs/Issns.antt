@@ -39,10 +39,13 @@ abbrev pub weighted : List ℕ → ℕ
 weighted bs =
     (8 * digitValue (getD bs 0 0) + 7 * digitValue (getD bs 1 0) + 6 * digitValue (getD bs 2 0) + 5 * digitValue (getD bs 3 0)) + (4 * digitValue (getD bs 5 0) + 3 * digitValue (getD bs 6 0) + 2 * digitValue (getD bs 7 0) + checkValue (getD bs 8 0))
 
+abbrev pub rightSum : ℕ → Bool
+rightSum n = eqb (n % 11) 0
+
 -- nine bytes, by the first of them that is unfit, if there is one
 abbrev pub readNine : Option ℕ → List ℕ → Result Issn IssnFault
 readNine (Some i) bs = Err (Unfit i)
-readNine None bs = cond (eqb (weighted bs % 11) 0) (Ok (record { bytes = bs })) (Err CheckSum)
+readNine None bs = cond (rightSum (weighted bs)) (Ok (record { bytes = bs })) (Err CheckSum)
 
 -- the ISSN that shows as the bytes do, else what is wrong: first the length, then the form, then the sum
 abbrev pub readIssn : List ℕ → Result Issn IssnFault

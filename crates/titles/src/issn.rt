@@ -2,7 +2,7 @@
 ghost use mathlib.Core.Path.{_≡_};
 ghost use Rattle.std.specs.Orderings.{Decides};
 ghost use Rattle.std.specs.Results.{isOk};
-ghost use Rattle.titles.specs.Issns.{issnFaultPlace, readIssn};
+ghost use Rattle.titles.specs.Issns.{issnFaultPlace, readIssn, rightSum};
 ghost use Rattle.titles.specs.Spelling.{Right};
 ghost use Rattle.titles.specs.Weighing.{checkAt, digitAt, weighBack, weighFront};
 
@@ -65,7 +65,7 @@ pub fn read_issn(bytes: &[u8]) -> Result<Issn, IssnFault>
         [a, b, c, d, b'-', e, f, g, check] => {
             let front = weigh_front(*a, *b, *c, *d)?;
             let back = weigh_back(*e, *f, *g, *check)?;
-            if (front + back) % 11 != 0 {
+            if !is_right_sum(front + back) {
                 return Err(IssnFault::CheckSum);
             }
             Ok(Issn {
@@ -94,6 +94,13 @@ fn weigh_back(e: u8, f: u8, g: u8, check: u8) -> Result<u32, IssnFault>
     ensures { λ r. ⌜ r ≡ weighBack e f g check ⌝ }
 {
     Ok(4 * digit(e, 5)? + 3 * digit(f, 6)? + 2 * digit(g, 7)? + check_sign(check)?)
+}
+
+/// Whether a weighted sum is that of a right ISSN.
+fn is_right_sum(sum: u32) -> bool
+    ensures { λ r. ⌜ r ≡ rightSum sum ⌝ }
+{
+    sum % 11 == 0
 }
 
 /// What a digit counts.
