@@ -2,21 +2,26 @@
 use mathlib.Core.Bool.{Bool, true, false, cond, not, _&&_}
 use mathlib.Core.List.{List, [], _∷_}
 use mathlib.Core.Path.{_≡_, refl, sym, ap, _∙_}
-use Prim.Native.Nat.{ℕ, _+_, _≤_}
+use Prim.Native.Nat.{ℕ, _+_, _<_, _≤_}
 use lib.Dec.{leb}
-use lib.ListN.{length}
+use lib.ListN.{length, getD, drop}
+use Rattle.std.proofs.shelf.Lists.{at-drop-more}
 use Rattle.std.proofs.shelf.Tests.{and-from, le-leb}
 use Rattle.std.specs.Options.{isSome}
 use Rattle.std.specs.Results.{isOk}
 use Rattle.std.specs.declared.option.Option.{Option}
 use Rattle.std.specs.declared.option.Option.the-variants.{Some, None}
-use Rattle.std.specs.declared.result.Result.{Result}
-use Rattle.std.specs.declared.result.Result.the-variants.{Ok, Err}
+use Rattle.std.specs.declared.result.Result.the-variants.{Err}
 use Rattle.texts.specs.Texts.{allFit, fit, isText}
-use Rattle.titles.specs.declared.text.TextFault.{TextFault}
 use Rattle.titles.specs.declared.text.TextFault.the-variants.{Length}
 use Rattle.titles.specs.Texts.{firstUnfitByte, readBytes, readText}
 
+-- the first unfit byte, from the byte at i on
+pub one-byte : (bs : List ℕ) (i : ℕ) (t : Bool) → i < length bs → t ≡ fit (getD bs i 0) → cond t (firstUnfitByte (i + 1) (drop (i + 1) bs)) (Some i) ≡ firstUnfitByte i (drop i bs)
+one-byte bs i t h e =
+    ap (λ x. cond x (firstUnfitByte (i + 1) (drop (i + 1) bs)) (Some i)) e ∙ sym (at-drop-more (firstUnfitByte i) bs i 0 h)
+
+-- all bytes are fit exactly where none is the first unfit one
 one-more : (p x : Bool) (o : Option ℕ) (i : ℕ) → x ≡ not (isSome o) → (p && x) ≡ not (isSome (cond p o (Some i)))
 one-more true x o i e = e
 one-more false x o i e = refl

@@ -2,7 +2,7 @@
 use mathlib.Core.Bool.{Bool, true, false, cond}
 use mathlib.Core.List.{List, [], _∷_}
 use mathlib.Core.Path.{_≡_, refl, sym, ap, _∙_}
-use Prim.Native.Nat.{ℕ, _+_, _%_}
+use Prim.Native.Nat.{ℕ, _+_}
 use lib.Dec.{eqb}
 use lib.ListN.{length, getD}
 use Rattle.std.proofs.shelf.Equals.{text-from-reads}
@@ -13,7 +13,7 @@ use Rattle.std.specs.declared.result.Result.{Result}
 use Rattle.std.specs.declared.result.Result.the-variants.{Ok, Err}
 use Rattle.titles.specs.declared.issn.Issn.{Issn}
 use Rattle.titles.specs.declared.issn.IssnFault.{IssnFault}
-use Rattle.titles.specs.declared.issn.IssnFault.the-variants.{Length, Unfit, CheckSum}
+use Rattle.titles.specs.declared.issn.IssnFault.the-variants.{Unfit, CheckSum}
 use Rattle.titles.specs.Issns.{isCheck, isDigit, readIssn, readNine, rightSum, weighted}
 use Rattle.titles.specs.Weighing.{backSum, frontSum, unless, weighBack, weighFront}
 
@@ -28,7 +28,7 @@ joined (Ok m) true (Ok n) bs = cond (rightSum (m + n)) (Ok (record { bytes = bs 
 abbrev pub four : Bool → Bool → Bool → Bool → ℕ → ℕ → ℕ → ℕ → Option ℕ → Option ℕ
 four p q r s i j k l rest = cond p (cond q (cond r (cond s rest (Some l)) (Some k)) (Some j)) (Some i)
 
-pub by-tests : (p q r s h t u v w : Bool) (m n : ℕ) (bs : List ℕ) → weighted bs ≡ m + n → readNine (four p q r s 0 1 2 3 (cond h (four t u v w 5 6 7 8 None) (Some 4))) bs ≡ joined (unless (four p q r s 0 1 2 3 None) m) h (unless (four t u v w 5 6 7 8 None) n) bs
+by-tests : (p q r s h t u v w : Bool) (m n : ℕ) (bs : List ℕ) → weighted bs ≡ m + n → readNine (four p q r s 0 1 2 3 (cond h (four t u v w 5 6 7 8 None) (Some 4))) bs ≡ joined (unless (four p q r s 0 1 2 3 None) m) h (unless (four t u v w 5 6 7 8 None) n) bs
 by-tests false q r s h t u v w m n bs e = refl
 by-tests true false r s h t u v w m n bs e = refl
 by-tests true true false s h t u v w m n bs e = refl
@@ -42,16 +42,16 @@ by-tests true true true true true true true true true m n bs e =
     ap (λ x. cond (rightSum x) (Ok (record { bytes = bs })) (Err CheckSum)) e
 
 module _ (s : List ℕ) (l : length s ≡ 9) where
-  abbrev pub at : ℕ → ℕ
+  abbrev at : ℕ → ℕ
   at i = getD s i 0
 
-  abbrev pub nine : List ℕ
+  abbrev nine : List ℕ
   nine = at 0 ∷ at 1 ∷ at 2 ∷ at 3 ∷ at 4 ∷ at 5 ∷ at 6 ∷ at 7 ∷ at 8 ∷ []
 
-  abbrev pub front : Result ℕ IssnFault
+  abbrev front : Result ℕ IssnFault
   front = weighFront (at 0) (at 1) (at 2) (at 3)
 
-  abbrev pub back : Result ℕ IssnFault
+  abbrev back : Result ℕ IssnFault
   back = weighBack (at 5) (at 6) (at 7) (at 8)
 
   pub spelled : s ≡ nine

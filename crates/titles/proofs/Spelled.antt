@@ -1,13 +1,13 @@
 -- Bytes are read as an ISSN exactly where they spell a right one.
-use mathlib.Core.Bool.{Bool, true, false, cond, _&&_, _||_}
+use mathlib.Core.Bool.{Bool, true, false, cond}
 use mathlib.Core.List.{List, [], _∷_}
 use mathlib.Core.Path.{_≡_, refl, sym, ap, _∙_}
 use Prim.Native.Nat.{ℕ, _+_, _-_, _*_, _%_, _<_, _≤_}
 use native.Mathlib.Omega.{arith}
-use lib.Dec.{eqb, leb}
+use lib.Dec.{eqb}
 use lib.ListN.{length, getD}
-use Rattle.std.proofs.shelf.Ways.{tells}
 use Rattle.std.proofs.shelf.Tests.{eq-eqb, eqb-true, false≢true}
+use Rattle.std.proofs.shelf.Ways.{tells}
 use Rattle.std.specs.Orderings.{Decides}
 use Rattle.std.specs.Results.{isOk}
 use Rattle.std.specs.declared.option.Option.the-variants.{None}
@@ -17,10 +17,11 @@ use Rattle.titles.specs.declared.issn.Issn.{Issn}
 use Rattle.titles.specs.declared.issn.IssnFault.{IssnFault}
 use Rattle.titles.specs.declared.issn.IssnFault.the-variants.{Length, CheckSum}
 use Rattle.titles.specs.Issns.{checkValue, firstUnfitSign, isCheck, isDigit, readIssn, readNine, weighted}
-use Rattle.titles.proofs.Halves.{by-halves, four, joined, spelled}
 use Rattle.titles.specs.Spelling.{Right, checkSign, digit}
 use Rattle.titles.specs.Weighing.{backSum, frontSum, unless}
+use Rattle.titles.proofs.Halves.{by-halves, four, joined, spelled}
 
+-- what is spelled may stand in its place, and counts what it spells; and the other way round
 digit-stands : (n : ℕ) → n < 10 → isDigit (digit n) ≡ true
 digit-stands n h = grind (arith, tells)
 
