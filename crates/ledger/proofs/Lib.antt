@@ -1,4 +1,5 @@
 pub mod Calls
+pub mod Drawn
 pub mod Fated
 pub mod Room
 pub mod Steps

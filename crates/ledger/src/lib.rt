@@ -1,5 +1,6 @@
 //! The ledger: it takes requests, drops those that a later one supersedes, and counts the others.
 mod answer;
+mod draw;
 mod notice;
 mod offer;
 mod opening;

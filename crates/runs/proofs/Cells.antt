@@ -90,7 +90,7 @@ getD-added u n t c k t-in c-in k₁ k₂ cs (r ∷ rs) size h small =
     let j = cellAt u (r .journal) (h .0 .column) (r .format) in
     let lt : i < length cs = omega (arith, size, cell-within u t c k t-in c-in k₁ k₂) in
     let one : getD (addAt cs (cellOf u r)) i 0 ≡ getD cs i 0 + cond (inCell u t c k r) 1 0 =
-      ap (λ o. getD (addAt cs o) i 0) (cell-is u n r (h .0)) ∙ getD-addAt cs j i lt (omega arith) ∙ ap (λ b. getD cs i 0 + cond b 1 0) (cell-test u n r (h .0) t c k c-in k₁ k₂) in
+    ap (λ o. getD (addAt cs o) i 0) (cell-is u n r (h .0)) ∙ getD-addAt cs j i lt (omega arith) ∙ ap (λ b. getD cs i 0 + cond b 1 0) (cell-test u n r (h .0) t c k c-in k₁ k₂) in
     let most = cond-most (inCell u t c k r) in
     let ih = getD-added u n t c k t-in c-in k₁ k₂ (addAt cs (cellOf u r)) rs (length-addAt cs (cellOf u r) ∙ size) (h .1) (omega arith) in
     omega (arith, ih, one, sumBy-cons (λ q. cond (inCell u t c k q) 1 0) r rs)

@@ -44,15 +44,15 @@ standing-push u (a ∷ xs) q =
     let ih = standing-push u xs q in
     ⊎-elim
     (λ e.
-      cond-true g ys (a ∷ ys) (followed-push u a xs q ∙ ap (λ t. t || follows u a q) e) ∙ ih
-      ∙ ap (λ t. kept-by n t ++ (q ∷ [])) (sym (cond-true f zs (a ∷ zs) e)))
+    cond-true g ys (a ∷ ys) (followed-push u a xs q ∙ ap (λ t. t || follows u a q) e) ∙ ih
+    ∙ ap (λ t. kept-by n t ++ (q ∷ [])) (sym (cond-true f zs (a ∷ zs) e)))
     (λ e.
-      let g-is : g ≡ follows u a q = followed-push u a xs q ∙ ap (λ t. t || follows u a q) e in
-      let right = ap (λ t. kept-by n t ++ (q ∷ [])) (sym (cond-false f zs (a ∷ zs) e)) in
-      ⊎-elim
-      (λ k. cond-true g ys (a ∷ ys) (g-is ∙ k) ∙ ih ∙ ap (λ t. t ++ (q ∷ [])) (sym (keep-no n a zs (ap not k))) ∙ right)
-      (λ k. cond-false g ys (a ∷ ys) (g-is ∙ k) ∙ ap (λ t. a ∷ t) ih ∙ ap (λ t. t ++ (q ∷ [])) (sym (keep-yes n a zs (ap not k))) ∙ right)
-      (cases-bool (follows u a q)))
+    let g-is : g ≡ follows u a q = followed-push u a xs q ∙ ap (λ t. t || follows u a q) e in
+    let right = ap (λ t. kept-by n t ++ (q ∷ [])) (sym (cond-false f zs (a ∷ zs) e)) in
+    ⊎-elim
+    (λ k. cond-true g ys (a ∷ ys) (g-is ∙ k) ∙ ih ∙ ap (λ t. t ++ (q ∷ [])) (sym (keep-no n a zs (ap not k))) ∙ right)
+    (λ k. cond-false g ys (a ∷ ys) (g-is ∙ k) ∙ ap (λ t. a ∷ t) ih ∙ ap (λ t. t ++ (q ∷ [])) (sym (keep-yes n a zs (ap not k))) ∙ right)
+    (cases-bool (follows u a q)))
     (cases-bool f)
 
 -- each accepted request is superseded or stands
@@ -61,8 +61,9 @@ standing-or-superseded u [] = refl
 standing-or-superseded u (a ∷ xs) =
     let ih = standing-or-superseded u xs in
     elim (followed u a xs) as (λ b. length (cond b (a ∷ supersededOf u xs) (supersededOf u xs)) + length (cond b (standing u xs) (a ∷ standing u xs)) ≡ length (a ∷ xs)) [
-      true ↦ omega (arith, ih)
-    | false ↦ omega (arith, ih) ]
+      | true ↦ omega (arith, ih)
+      | false ↦ omega (arith, ih)
+    ]
 
 pub all-standing : (u : Setup) (P : Request → Type 0) (xs : List Request) → All P xs → All P (standing u xs)
 all-standing u P [] h = tt
@@ -81,6 +82,6 @@ follows-is u q a le =
     let x = a .time + window a in
     ap (λ t. s && (t && leb (q .time) x)) (le-leb (a .time) (q .time) le)
     ∙ ⊎-elim
-      (λ h. ap (λ t. s && t) (lt-leb (q .time) x h) ∙ and-right s false refl ∙ ap (λ t. not t && s) (sym (lt-ltb x (q .time) h)))
-      (λ h. ap (λ t. s && t) (le-leb (q .time) x h) ∙ and-true s ∙ ap (λ t. not t && s) (sym (le-ltb x (q .time) h)))
-      (cases-lt x (q .time))
+    (λ h. ap (λ t. s && t) (lt-leb (q .time) x h) ∙ and-right s false refl ∙ ap (λ t. not t && s) (sym (lt-ltb x (q .time) h)))
+    (λ h. ap (λ t. s && t) (le-leb (q .time) x h) ∙ and-true s ∙ ap (λ t. not t && s) (sym (le-ltb x (q .time) h)))
+    (cases-lt x (q .time))
