@@ -1,0 +1,127 @@
+//! The numbers that a line shows, summed from the count table.
+ghost use mathlib.Core.Path.{_≡_};
+ghost use Prim.Native.Nat.{_+_, _*_, _^_, _<_, _≤_};
+ghost use lib.ListN.{length};
+use titles::Title;
+
+/// The highest number that may be shown.
+const HIGHEST: u64 = 1_000_000_000;
+
+/// How many columns the lines have, and whether the year-to-date columns follow.
+#[derive(Clone, Copy)]
+pub(crate) struct Shape {
+    pub columns: usize,
+    pub ytd: bool,
+}
+
+/// Requests by format.
+#[derive(Clone, Copy)]
+pub(crate) struct Formats {
+    pub html: u64,
+    pub pdf: u64,
+}
+
+/// The numbers of a line: one to each column, and the sums of each format over all columns.
+#[derive(Clone, Copy)]
+pub(crate) struct Counts {
+    pub numbers: [u64; 12],
+    pub html: u64,
+    pub pdf: u64,
+}
+
+impl Counts {
+    /// Puts the sum of a column's formats into the column, and adds them to the sums.
+    fn add(&mut self, column: usize, formats: Formats)
+        requires column { ⌜ column < 12 ⌝ }
+        requires formats { ⌜ (formats .html ≤ 2199023255552) × (formats .pdf ≤ 2199023255552) ⌝ }
+        requires sums { ⌜ (now self .html ≤ column * 2199023255552) × (now self .pdf ≤ column * 2199023255552) ⌝ }
+        ensures html { λ _. ⌜ now (self .exit) .html ≡ now (self .entry) .html + formats .html ⌝ }
+        ensures pdf { λ _. ⌜ now (self .exit) .pdf ≡ now (self .entry) .pdf + formats .pdf ⌝ }
+    {
+        self.numbers[column] = formats.html + formats.pdf;
+        self.html += formats.html;
+        self.pdf += formats.pdf;
+    }
+
+    /// The sum of all columns.
+    pub fn total(&self) -> u64
+        requires { ⌜ (now self .html ≤ 2 ^ 45) × (now self .pdf ≤ 2 ^ 45) ⌝ }
+    {
+        self.html + self.pdf
+    }
+
+    /// Whether each number that is shown is low enough.
+    pub fn can_be_shown(&self, shape: Shape) -> bool
+        requires columns { ⌜ shape .columns ≤ 12 ⌝ }
+        requires sums { ⌜ (now self .html ≤ 2 ^ 45) × (now self .pdf ≤ 2 ^ 45) ⌝ }
+    {
+        for column in 0..shape.columns {
+            if self.numbers[column] > HIGHEST {
+                return false;
+            }
+        }
+        !shape.ytd || self.total() <= HIGHEST
+    }
+}
+
+/// A title's requests in a column.
+fn title_formats(cells: &[u32], columns: usize, title: usize, column: usize) -> Formats
+    requires { ⌜ (title * columns + column) * 2 + 1 < length (now cells) ⌝ }
+    ensures low { λ r. ⌜ (r .html < 2 ^ 32) × (r .pdf < 2 ^ 32) ⌝ }
+{
+    let at = (title * columns + column) * 2;
+    Formats {
+        html: u64::from(cells[at]),
+        pdf: u64::from(cells[at + 1]),
+    }
+}
+
+/// The requests of all titles in a column.
+fn column_formats(titles: &[Title<'_>], cells: &[u32], columns: usize, column: usize) -> Formats
+    requires table { ⌜ length (now cells) ≡ length (now titles) * columns * 2 ⌝ }
+    requires few { ⌜ length (now titles) ≤ 512 ⌝ }
+    requires column { ⌜ column < columns ⌝ }
+    ensures low { λ r. ⌜ (r .html ≤ 2199023255552) × (r .pdf ≤ 2199023255552) ⌝ }
+{
+    let mut sum = Formats { html: 0, pdf: 0 };
+    for title in 0..titles.len() {
+        let formats = title_formats(cells, columns, title, column);
+        sum.html += formats.html;
+        sum.pdf += formats.pdf;
+    }
+    sum
+}
+
+/// The numbers of a title's line.
+pub(crate) fn title_counts(cells: &[u32], columns: usize, title: usize) -> Counts
+    requires few { ⌜ columns ≤ 12 ⌝ }
+    requires table { ⌜ (title + 1) * columns * 2 ≤ length (now cells) ⌝ }
+    ensures low { λ r. ⌜ (r .html ≤ 2 ^ 45) × (r .pdf ≤ 2 ^ 45) ⌝ }
+{
+    let mut counts = Counts {
+        numbers: [0; 12],
+        html: 0,
+        pdf: 0,
+    };
+    for column in 0..columns {
+        counts.add(column, title_formats(cells, columns, title, column));
+    }
+    counts
+}
+
+/// The numbers of the line for all journals.
+pub(crate) fn total_counts(titles: &[Title<'_>], cells: &[u32], columns: usize) -> Counts
+    requires table { ⌜ length (now cells) ≡ length (now titles) * columns * 2 ⌝ }
+    requires few { ⌜ (length (now titles) ≤ 512) × (columns ≤ 12) ⌝ }
+    ensures low { λ r. ⌜ (r .html ≤ 2 ^ 45) × (r .pdf ≤ 2 ^ 45) ⌝ }
+{
+    let mut counts = Counts {
+        numbers: [0; 12],
+        html: 0,
+        pdf: 0,
+    };
+    for column in 0..columns {
+        counts.add(column, column_formats(titles, cells, columns, column));
+    }
+    counts
+}

@@ -1,0 +1,129 @@
+//! Writing a report.
+ghost use mathlib.Core.Path.{_≡_};
+ghost use Prim.Native.Nat.{_*_, _^_, _≤_};
+ghost use lib.ListN.{length};
+use crate::check::check_header;
+use crate::check::check_titles;
+use crate::counts::Counts;
+use crate::counts::Shape;
+use crate::counts::title_counts;
+use crate::counts::total_counts;
+use crate::header::Header;
+use crate::line::Label;
+use crate::line::put_count_line;
+use crate::line::put_date_line;
+use crate::line::put_heading_line;
+use crate::line::put_single_line;
+use crate::line::put_title_line;
+use crate::put::put_bytes;
+use crate::put::put_line_end;
+use crate::put::put_text_cell;
+use crate::refusal::WriteRefusal;
+use columns::ColumnScheme;
+use ledger::Settled;
+use titles::Title;
+
+/// Writes the report of a settled ledger with its count table and its titles into the buffer, from
+/// its first byte on, and tells how many bytes it has. What lies past them stays, and a refusal
+/// leaves the whole buffer as it was.
+pub fn write<'a, R, S: ColumnScheme>(
+    ledger: &Settled<R, S>,
+    cells: &[u32],
+    titles: &'a [Title<'a>],
+    header: &Header<'a>,
+    out: &mut [u8],
+) -> Result<usize, WriteRefusal> {
+    check_header(header)?;
+    if titles.len() != ledger.titles() {
+        return Err(WriteRefusal::TitleCount);
+    }
+    check_titles(titles)?;
+    let scheme = ledger.scheme();
+    if cells.len() != titles.len() * scheme.columns() * 2 {
+        return Err(WriteRefusal::CellCount);
+    }
+    let shape = Shape {
+        columns: scheme.columns(),
+        ytd: scheme.has_ytd(),
+    };
+    let totals = total_counts(titles, cells, shape.columns);
+    if !totals.can_be_shown(shape) {
+        return Err(WriteRefusal::Number);
+    }
+    let mut none = [0; 0];
+    let length = put_report(&mut none, scheme, cells, titles, header, &totals, shape);
+    if length > out.len() {
+        return Err(WriteRefusal::Buffer { length });
+    }
+    Ok(put_report(out, scheme, cells, titles, header, &totals, shape))
+}
+
+/// Writes a report whose parts are what they should be.
+fn put_report<'a, S: ColumnScheme>(
+    out: &mut [u8],
+    scheme: &S,
+    cells: &[u32],
+    titles: &'a [Title<'a>],
+    header: &Header<'a>,
+    totals: &Counts,
+    shape: Shape,
+) -> usize
+    requires columns { ⌜ shape .columns ≤ 12 ⌝ }
+    requires table { ⌜ length (now cells) ≡ length (now titles) * shape .columns * 2 ⌝ }
+    requires sums { ⌜ (now totals .html ≤ 2 ^ 45) × (now totals .pdf ≤ 2 ^ 45) ⌝ }
+{
+    let at = put_front(out, scheme, header);
+    let at = put_heading_line(out, at, scheme);
+    let label = Label {
+        name: b"Total for all journals",
+        publisher: shared_publisher(titles),
+        platform: header.platform,
+        print: b"",
+        online: b"",
+    };
+    let at = put_count_line(out, at, &label, totals, shape);
+    put_title_lines(out, at, cells, titles, header.platform, shape)
+}
+
+/// Writes the four lines above the table.
+fn put_front<S: ColumnScheme>(out: &mut [u8], scheme: &S, header: &Header<'_>) -> usize {
+    let at = put_bytes(out, 0, scheme.report());
+    let at = put_text_cell(out, at, scheme.description());
+    let at = put_line_end(out, at);
+    let at = put_single_line(out, at, header.criteria);
+    let at = put_single_line(out, at, b"Date run:");
+    put_date_line(out, at, header.date)
+}
+
+/// Writes a line for each title.
+fn put_title_lines<'a>(
+    out: &mut [u8],
+    at: usize,
+    cells: &[u32],
+    titles: &'a [Title<'a>],
+    platform: &'a [u8],
+    shape: Shape,
+) -> usize
+    requires columns { ⌜ shape .columns ≤ 12 ⌝ }
+    requires table { ⌜ length (now cells) ≡ length (now titles) * shape .columns * 2 ⌝ }
+{
+    let mut end = at;
+    for title in 0..titles.len() {
+        let counts = title_counts(cells, shape.columns, title);
+        end = put_title_line(out, end, &titles[title], platform, &counts, shape);
+    }
+    end
+}
+
+/// The publisher of all titles, if they have the same one; else it is blank.
+fn shared_publisher<'a>(titles: &[Title<'a>]) -> &'a [u8] {
+    let [first, rest @ ..] = titles else {
+        return b"";
+    };
+    for title in rest {
+        if title.publisher != first.publisher {
+            return b"";
+        }
+    }
+    first.publisher
+}
