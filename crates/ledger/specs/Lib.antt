@@ -2,3 +2,4 @@ pub mod Answers
 pub mod Views
 pub mod Fates
 pub mod Openings
+pub mod Calls

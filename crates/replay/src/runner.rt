@@ -1,15 +1,12 @@
 //! A whole run.
 ghost use mathlib.Core.Path.{_≡_};
-ghost use mathlib.Core.Bool.{true};
-ghost use mathlib.Core.List.{List, [], _∷_};
-ghost use lib.ListN.{length, take};
-ghost use Rattle.std.specs.Results.{Cases, isOk};
-ghost use Rattle.runs.specs.Past.{Call, granted, Past, settling};
+ghost use mathlib.Core.List.{[], _∷_};
+ghost use lib.ListN.{length};
+ghost use Rattle.runs.specs.Past.{Call, Past};
 ghost use Rattle.runs.specs.Law.{Stands};
-ghost use Rattle.ledger.specs.Answers.{number};
-ghost use Rattle.ledger.specs.Openings.{openable};
-ghost use Rattle.ledger.specs.Views.{books, setup, settledBooksOf};
+ghost use Rattle.ledger.specs.Views.{books, setup};
 ghost use Rattle.replay.specs.Rows.{Made, stepsOf, Told};
+ghost use Rattle.replay.specs.Runs.{Runs};
 use crate::row::Entry;
 use crate::row::Reply;
 use crate::row::Step;
@@ -88,10 +85,7 @@ pub fn run<R: ReaderRule, S: ColumnScheme, Src: Source>(
     source: &mut Src,
     entries: &mut [Entry],
 ) -> Result<Settled<R, S>, Unopened<R, S>>
-    ensures granted { λ r. ⌜ isOk r ≡ openable titles (length (S·ColumnScheme .layout scheme .headings)) limit (length (now (waiting .entry))) (length (now (cells .entry))) ⌝ }
-    ensures terms { λ r. ⌜ Cases r (λ s. (s .terms .rule ≡ rule) × (s .terms .scheme ≡ scheme) × (s .terms .titles ≡ titles) × (s .terms .limit ≡ limit) × (s .terms .slots ≡ length (now (waiting .entry)))) (λ e. (e .rule ≡ rule) × (e .scheme ≡ scheme) × (number (e .refusal) ≡ 9)) ⌝ }
-    ensures steps { λ _. ⌜ stepsOf (now (entries .exit)) ≡ stepsOf (now (entries .entry)) ⌝ }
-    ensures law { λ r. ⌜ Cases r (λ s. (p : Past) × Told (Src·Source .items (now (source .entry))) (now (entries .exit)) p (Src·Source .items (now (source .exit))) × Stands (setup (R·ReaderRule .relates) (S·ColumnScheme .place) (S·ColumnScheme .layout) (s .terms)) (settling true granted ∷ p) (settledBooksOf s (now (waiting .exit)) (now (cells .exit)))) (λ e. (now (waiting .exit) ≡ now (waiting .entry)) × (now (cells .exit) ≡ now (cells .entry)) × (now (source .exit) ≡ now (source .entry)) × (now (entries .exit) ≡ now (entries .entry))) ⌝ }
+    ensures { λ r. ⌜ Runs (setup (R·ReaderRule .relates) (S·ColumnScheme .place) (S·ColumnScheme .layout)) (length (S·ColumnScheme .layout scheme .headings)) rule scheme titles limit (now (waiting .entry)) (now (cells .entry)) (now (waiting .exit)) (now (cells .exit)) (Src·Source .items (now (source .entry))) (Src·Source .items (now (source .exit))) (now (entries .entry)) (now (entries .exit)) r ⌝ }
 {
     let ledger = Open::new(rule, scheme, titles, limit, waiting, cells)?;
     let ledger = perform_all(ledger, waiting, cells, source, entries);
