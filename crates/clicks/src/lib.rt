@@ -1,3 +1,12 @@
-//! The worked clicks of the double-click rule, run through a ledger.
+//! The worked cases of the rules: proved of the definitions, and run through a ledger.
+ghost use Rattle.clicks.specs.Cases.{Cases};
+
 #[cfg(test)]
 mod tests;
+
+/// The rules give what the worked cases say.
+pub fn worked_cases() -> bool
+    ensures { λ _. ⌜ Cases ⌝ }
+{
+    true
+}
