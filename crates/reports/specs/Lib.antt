@@ -1,0 +1,6 @@
+pub mod Counting
+pub mod Labels
+pub mod Puts
+pub mod Reports
+pub mod Tables
+pub mod Written

@@ -2,6 +2,7 @@
 ghost use mathlib.Core.Path.{_≡_};
 ghost use Prim.Native.Nat.{_*_, _^_, _≤_};
 ghost use lib.ListN.{length};
+ghost use Rattle.reports.specs.Counting.{Balanced};
 use crate::check::check_header;
 use crate::check::check_titles;
 use crate::counts::Counts;
@@ -70,7 +71,7 @@ fn put_report<'a, S: ColumnScheme>(
 ) -> usize
     requires columns { ⌜ shape .columns ≤ 12 ⌝ }
     requires table { ⌜ length (now cells) ≡ length (now titles) * shape .columns * 2 ⌝ }
-    requires sums { ⌜ (now totals .html ≤ 2 ^ 45) × (now totals .pdf ≤ 2 ^ 45) ⌝ }
+    requires balanced { ⌜ Balanced (shape .columns) (now totals) ⌝ }
 {
     let at = put_front(out, scheme, header);
     let at = put_heading_line(out, at, scheme);
