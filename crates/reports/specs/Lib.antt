@@ -1,3 +1,4 @@
+pub mod Answers
 pub mod Counting
 pub mod Labels
 pub mod Puts

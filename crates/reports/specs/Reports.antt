@@ -6,6 +6,7 @@ use Prim.Native.Nat.{ℕ, _+_}
 use lib.Dec.{leb}
 use lib.ListN.{getD}
 use Rattle.std.specs.Iters.{counting}
+use Rattle.std.specs.Joined.{joined}
 use Rattle.std.specs.shelf.Lawful.{all-pass}
 use Rattle.std.specs.shelf.Lists.{sum, sumBy}
 use Rattle.std.specs.shelf.Text.{sameBytes}
@@ -57,11 +58,18 @@ totals n ls = record {
   pdf = sumBy (λ l. l .usage .pdf) ls;
 }
 
--- the publisher that all lines share, else blank
+-- the publisher that all share, else blank
+abbrev pub shared : List (List ℕ) → List ℕ
+shared [] = []
+shared (p ∷ ps) = cond (all-pass (sameBytes p) ps) p []
+
 abbrev pub sharedPublisher : List Line → List ℕ
-sharedPublisher [] = []
-sharedPublisher (l ∷ ls) = cond (all-pass (λ m. sameBytes (m .publisher) (l .publisher)) ls) (l .publisher) []
+sharedPublisher ls = shared (map (λ l. l .publisher) ls)
 
 -- a number that may be shown
 abbrev pub isLow : ℕ → Bool
 isLow n = leb n 1000000000
+
+-- all numbers that the table shows, in n columns
+abbrev pub tableNumbers : Bool → ℕ → List Line → List ℕ
+tableNumbers ytd n ls = shownNumbers ytd (totals n ls) ++ joined (λ l. shownNumbers ytd (l .usage)) ls

@@ -47,14 +47,14 @@ abbrev pub headingLine : Layout → List ℕ
 headingLine l =
     lineText [] (codes "Publisher" ∷ codes "Platform" ∷ codes "Print ISSN" ∷ codes "Online ISSN" ∷ (l .headings ++ ytdHeadings (l .ytd)))
 
-abbrev pub totalLine : Layout → List ℕ → List Line → List ℕ
-totalLine l platform ls =
-    usageLine (l .ytd) (codes "Total for all journals") (sharedPublisher ls) platform [] [] (totals (length (l .headings)) ls)
+abbrev pub totalLine : Bool → ℕ → List ℕ → List Line → List ℕ
+totalLine ytd n platform ls =
+    usageLine ytd (codes "Total for all journals") (sharedPublisher ls) platform [] [] (totals n ls)
 
-abbrev pub titleLine : Layout → List ℕ → Line → List ℕ
-titleLine l platform t = usageLine (l .ytd) (t .name) (t .publisher) platform (t .print) (t .online) (t .usage)
+abbrev pub titleLine : Bool → List ℕ → Line → List ℕ
+titleLine ytd platform t = usageLine ytd (t .name) (t .publisher) platform (t .print) (t .online) (t .usage)
 
 -- the whole report
 abbrev pub reportText : Layout → Report → List ℕ
 reportText l r =
-    frontText l (r .head) ++ (headingLine l ++ (totalLine l (r .head .platform) (r .lines) ++ joined (titleLine l (r .head .platform)) (r .lines)))
+    frontText l (r .head) ++ (headingLine l ++ (totalLine (l .ytd) (length (l .headings)) (r .head .platform) (r .lines) ++ joined (titleLine (l .ytd) (r .head .platform)) (r .lines)))

@@ -1,8 +1,18 @@
 //! Writing a report.
+ghost use mathlib.Core.List.{map};
 ghost use mathlib.Core.Path.{_≡_};
 ghost use Prim.Native.Nat.{_*_, _^_, _≤_};
 ghost use lib.ListN.{length};
+ghost use Rattle.std.specs.Joined.{joined};
+ghost use Rattle.std.specs.shelf.Lawful.{all-pass};
+ghost use Rattle.std.specs.shelf.Text.{sameBytes};
+ghost use Rattle.titles.specs.Titles.{entryOf};
+ghost use Rattle.reports.specs.Answers.{headOf};
 ghost use Rattle.reports.specs.Counting.{Balanced};
+ghost use Rattle.reports.specs.Puts.{Put};
+ghost use Rattle.reports.specs.Reports.{shared};
+ghost use Rattle.reports.specs.Tables.{linesFrom};
+ghost use Rattle.reports.specs.Written.{frontText, titleLine};
 use crate::check::check_header;
 use crate::check::check_titles;
 use crate::counts::Counts;
@@ -87,7 +97,9 @@ fn put_report<'a, S: ColumnScheme>(
 }
 
 /// Writes the four lines above the table.
-fn put_front<S: ColumnScheme>(out: &mut [u8], scheme: &S, header: &Header<'_>) -> usize {
+fn put_front<S: ColumnScheme>(out: &mut [u8], scheme: &S, header: &Header<'_>) -> usize
+    ensures { λ r. ⌜ Put (now (out .entry)) 0 (frontText (S·ColumnScheme .layout (now (scheme .entry))) (headOf (now (header .entry)))) (now (out .exit)) r ⌝ }
+{
     let at = put_bytes(out, 0, scheme.report());
     let at = put_text_cell(out, at, scheme.description());
     let at = put_line_end(out, at);
@@ -107,6 +119,7 @@ fn put_title_lines<'a>(
 ) -> usize
     requires columns { ⌜ shape .columns ≤ 12 ⌝ }
     requires table { ⌜ length (now cells) ≡ length (now titles) * shape .columns * 2 ⌝ }
+    ensures { λ r. ⌜ Put (now (out .entry)) at (joined (titleLine (shape .ytd) (now (platform .entry))) (linesFrom (now (cells .entry)) (shape .columns) 0 (map entryOf (now (titles .entry))))) (now (out .exit)) r ⌝ }
 {
     let mut end = at;
     for title in 0..titles.len() {
@@ -117,14 +130,29 @@ fn put_title_lines<'a>(
 }
 
 /// The publisher of all titles, if they have the same one; else it is blank.
-fn shared_publisher<'a>(titles: &[Title<'a>]) -> &'a [u8] {
-    let [first, rest @ ..] = titles else {
+fn shared_publisher<'a>(titles: &[Title<'a>]) -> &'a [u8]
+    ensures { λ r. ⌜ now r ≡ shared (map (λ t. t .publisher .now) (now (titles .entry))) ⌝ }
+{
+    if titles.is_empty() {
         return b"";
-    };
-    for title in rest {
-        if title.publisher != first.publisher {
-            return b"";
+    }
+    let publisher = titles[0].publisher;
+    if all_published_by(titles, publisher) { publisher } else { b"" }
+}
+
+fn all_published_by(titles: &[Title<'_>], publisher: &[u8]) -> bool
+    ensures { λ r. ⌜ r ≡ all-pass (sameBytes (now (publisher .entry))) (map (λ t. t .publisher .now) (now (titles .entry))) ⌝ }
+{
+    for title in 0..titles.len() {
+        if !same_bytes(publisher, titles[title].publisher) {
+            return false;
         }
     }
-    first.publisher
+    true
+}
+
+fn same_bytes(a: &[u8], b: &[u8]) -> bool
+    ensures { λ r. ⌜ r ≡ sameBytes (now (a .entry)) (now (b .entry)) ⌝ }
+{
+    a == b
 }
