@@ -29,9 +29,9 @@ module _ (cells : List ℕ) (n : ℕ) where
   line-at t (x ∷ es) zero j d e is h = ap (λ k. lineOf cells n k x) (let z : t ≡ j = omega arith in z)
   line-at t (x ∷ es) (suc i) j d e is h = line-at (t + 1) es i j d e (omega arith) (omega arith)
 
-  pub line-publishers : (t : ℕ) (es : List Entry) → map (λ (l : Line). l .publisher) (linesFrom cells n t es) ≡ map (λ (e : Entry). e .publisher) es
+  pub line-publishers : (t : ℕ) (ts : List Title) → map (λ (l : Line). l .publisher) (linesFrom cells n t (map entryOf ts)) ≡ map (λ (x : Title). x .publisher .now) ts
   line-publishers t [] = refl
-  line-publishers t (e ∷ es) = ap (λ ps. e .publisher ∷ ps) (line-publishers (t + 1) es)
+  line-publishers t (x ∷ ts) = ap (λ ps. x .publisher .now ∷ ps) (line-publishers (t + 1) ts)
 
   -- the numbers of title t
   abbrev usageAt : ℕ → Usage

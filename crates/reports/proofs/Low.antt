@@ -33,7 +33,7 @@ and-assoc : (a b c : Bool) → (a && (b && c)) ≡ ((a && b) && c)
 and-assoc true b c = refl
 and-assoc false b c = refl
 
-all-pass-append : {X : Type 0} (p : X → Bool) (xs ys : List X) → all-pass p (xs ++ ys) ≡ (all-pass p xs && all-pass p ys)
+pub all-pass-append : {X : Type 0} (p : X → Bool) (xs ys : List X) → all-pass p (xs ++ ys) ≡ (all-pass p xs && all-pass p ys)
 all-pass-append p [] ys = refl
 all-pass-append p (x ∷ xs) ys = ap (λ b. p x && b) (all-pass-append p xs ys) ∙ and-assoc (p x) (all-pass p xs) (all-pass p ys)
 

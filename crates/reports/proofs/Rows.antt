@@ -26,5 +26,5 @@ pub line-put : (old a b c new first : List ℕ) (xs ys zs : List (List ℕ)) (at
 line-put old a b c new first xs ys zs at i j k e p q r s =
     subst (λ text. Put old at text new e)
     (append-assoc first (joined nextCell xs) (joined nextCell ys ++ (joined nextCell zs ++ lineEnd))
-      ∙ ap (λ l. first ++ l) (sym (ap (λ l. l ++ lineEnd) (joined-append nextCell xs (ys ++ zs) ∙ ap (λ l. joined nextCell xs ++ l) (joined-append nextCell ys zs)) ∙ append-assoc (joined nextCell xs) (joined nextCell ys ++ joined nextCell zs) lineEnd ∙ ap (λ l. joined nextCell xs ++ l) (append-assoc (joined nextCell ys) (joined nextCell zs) lineEnd))))
+    ∙ ap (λ l. first ++ l) (sym (ap (λ l. l ++ lineEnd) (joined-append nextCell xs (ys ++ zs) ∙ ap (λ l. joined nextCell xs ++ l) (joined-append nextCell ys zs)) ∙ append-assoc (joined nextCell xs) (joined nextCell ys ++ joined nextCell zs) lineEnd ∙ ap (λ l. joined nextCell xs ++ l) (append-assoc (joined nextCell ys) (joined nextCell zs) lineEnd))))
     (next old a new (first ++ joined nextCell xs) (joined nextCell ys ++ (joined nextCell zs ++ lineEnd)) at i e p (next a b new (joined nextCell ys) (joined nextCell zs ++ lineEnd) i j e q (next b c new (joined nextCell zs) lineEnd j k e r s)))

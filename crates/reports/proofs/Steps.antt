@@ -3,7 +3,7 @@ use mathlib.Core.Path.{_≡_, refl, sym, ap, subst, _∙_}
 use mathlib.Core.List.{List, [], _∷_, _++_, append-assoc}
 use Prim.Native.Nat.{ℕ, _+_, _-_, _^_, _≤_, _<_, min}
 use native.Mathlib.Omega.{arith}
-use native.Mathlib.Nat.{add-assoc, add-zero, min-eq-left, min-eq-right}
+use native.Mathlib.Nat.{add-assoc, add-zero, min-eq-left, min-eq-right, zero-add}
 use mathlib.Core.Logic.{⊎-elim}
 use lib.ListN.{length, take, drop, length-append, take-append-drop}
 use Rattle.std.proofs.shelf.Lists.{append-nil, drop-drop, take-at, drop-at, length-take-le, length-drop}
@@ -54,12 +54,23 @@ next old mid new a b at m e p q =
     record {
       ends = q .ends ∙ ap (λ k. min (k + length b) (2 ^ 64 - 1)) (p .ends) ∙ capped (at + length a) (length b) ∙ ap (λ k. min k (2 ^ 64 - 1)) (add-assoc at (length a) (length b) ∙ ap (λ n. at + n) (sym l));
       holds = λ small room.
-        let at-m : m ≡ at + length a = p .ends ∙ min-eq-left (omega arith) in
-        let mid-is : mid ≡ put old at a = p .holds (omega arith) (omega arith) in
-        let long = ap length mid-is ∙ length-put old at a (omega arith) in
-        q .holds (omega arith) (omega arith) ∙ (λ i. put (mid-is i) (at-m i) b) ∙ put-put old at a b (omega arith);
+          let at-m : m ≡ at + length a = p .ends ∙ min-eq-left (omega arith) in
+          let mid-is : mid ≡ put old at a = p .holds (omega arith) (omega arith) in
+          let long = ap length mid-is ∙ length-put old at a (omega arith) in
+          q .holds (omega arith) (omega arith) ∙ (λ i. put (mid-is i) (at-m i) b) ∙ put-put old at a b (omega arith);
     }
 
 -- the last text of a row
 pub last : (old new a : List ℕ) (at e : ℕ) → Put old at a new e → Put old at (a ++ []) new e
 last old new a at e p = subst (λ text. Put old at text new e) (sym (append-nil a)) p
+
+-- a text that is measured, and then written from the first byte on
+module _ (old new text : List ℕ) (short : length old < 2 ^ 63) (measured : ℕ) (is : measured ≡ min (0 + length text) (2 ^ 64 - 1)) where
+  pub too-long : length old < measured → length old < length text
+  too-long over = ⊎-elim (λ l. let e = is ∙ min-eq-left (omega arith) in omega arith) (λ g. omega arith) (cases-lt (0 + length text) (2 ^ 64 - 1))
+
+  pub fits : measured ≤ length old → length text ≤ length old
+  fits room = ⊎-elim (λ l. let e = is ∙ min-eq-left (omega arith) in omega arith) (λ g. let e = is ∙ min-eq-right g in absurd (omega arith)) (cases-lt (0 + length text) (2 ^ 64 - 1))
+
+  pub given : (e : ℕ) → length text ≤ length old → Put old 0 text new e → (e ≡ length text) × (new ≡ text ++ drop (length text) old)
+  given e room p = (p .ends ∙ min-eq-left (omega arith) ∙ zero-add (length text), p .holds (omega arith) (omega arith) ∙ ap (λ n. text ++ drop n old) (zero-add (length text)))

@@ -32,7 +32,7 @@ refusalNumber TitleCount = 11
 refusalNumber (Title t fault) = 11
 refusalNumber CellCount = 11
 refusalNumber Number = 11
-refusalNumber (Buffer n) = 11
+refusalNumber Buffer = 11
 
 -- what a report is written of: the scheme's layout and the number of titles that the ledger was opened with, the count
 -- table, the titles, and what stands above the table
@@ -95,7 +95,7 @@ tableGrounds s =
 
 -- a buffer of so many bytes is shorter than the report
 abbrev pub bufferGround : Subject → ℕ → Option WriteRefusal
-bufferGround s room = unless (leb (length (text s)) room) (Buffer (length (text s)))
+bufferGround s room = unless (leb (length (text s)) room) Buffer
 
 -- the first ground that there is
 abbrev pub firstGround : List (Option WriteRefusal) → Option WriteRefusal

@@ -1,4 +1,5 @@
 pub mod Answers
+pub mod Checks
 pub mod Counting
 pub mod Labels
 pub mod Puts

@@ -6,6 +6,7 @@ ghost use Rattle.std.specs.shelf.Lawful.{all-pass};
 ghost use Rattle.reports.specs.Counting.{Balanced, htmlSum, pdfSum, usageOf};
 ghost use Rattle.reports.specs.Reports.{isLow, shownNumbers};
 ghost use Rattle.reports.specs.Tables.{htmlAt, pdfAt, usageBy};
+use columns::ColumnScheme;
 use titles::Title;
 
 /// The highest number that may be shown.
@@ -16,6 +17,19 @@ const HIGHEST: u64 = 1_000_000_000;
 pub(crate) struct Shape {
     pub columns: usize,
     pub ytd: bool,
+}
+
+impl Shape {
+    /// That of the lines under a scheme.
+    pub fn of<S: ColumnScheme>(scheme: &S) -> Shape
+        ensures shape { λ r. ⌜ r ≡ record { columns = length (S·ColumnScheme .layout (now (scheme .entry)) .headings); ytd = S·ColumnScheme .layout (now (scheme .entry)) .ytd } ⌝ }
+        ensures few { λ r. ⌜ r .columns ≤ 12 ⌝ }
+    {
+        Shape {
+            columns: scheme.columns(),
+            ytd: scheme.has_ytd(),
+        }
+    }
 }
 
 /// Requests by format.
@@ -116,7 +130,11 @@ pub(crate) fn title_counts(cells: &[u32], columns: usize, title: usize) -> Count
     ensures usage { λ r. ⌜ usageOf columns r ≡ usageBy (htmlAt (now (cells .entry)) columns title) (pdfAt (now (cells .entry)) columns title) columns ⌝ }
     ensures balanced { λ r. ⌜ Balanced columns r ⌝ }
 {
-    let mut counts = Counts { numbers: [0; 12], html: 0, pdf: 0 };
+    let mut counts = Counts {
+        numbers: [0; 12],
+        html: 0,
+        pdf: 0,
+    };
     for column in 0..columns {
         counts.add(column, title_formats(cells, columns, title, column));
     }
@@ -130,7 +148,11 @@ pub(crate) fn total_counts(titles: &[Title<'_>], cells: &[u32], columns: usize) 
     ensures usage { λ r. ⌜ usageOf columns r ≡ usageBy (htmlSum (now (cells .entry)) columns (length (now (titles .entry)))) (pdfSum (now (cells .entry)) columns (length (now (titles .entry)))) columns ⌝ }
     ensures balanced { λ r. ⌜ Balanced columns r ⌝ }
 {
-    let mut counts = Counts { numbers: [0; 12], html: 0, pdf: 0 };
+    let mut counts = Counts {
+        numbers: [0; 12],
+        html: 0,
+        pdf: 0,
+    };
     for column in 0..columns {
         counts.add(column, column_formats(titles, cells, columns, column));
     }

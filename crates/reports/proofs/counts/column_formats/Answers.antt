@@ -18,10 +18,11 @@ loop-title-again c =
     let sum = c .loop-title .inv .0 in
     let one = c .title-formats-formats .ensures .formats in
     let html = sumBy-counting-more (λ t. htmlAt (c .args .cells .now) (c .args .columns) t (c .args .column)) (c .loop-title .title) in
-    let pdf = sumBy-counting-more (λ t. pdfAt (c .args .cells .now) (c .args .columns) t (c .args .column)) (c .loop-title .title) in
-    ((λ i. record { html = sum i .html + one i .html; pdf = sum i .pdf + one i .pdf }) ∙ sym (λ i. record { html = html i; pdf = pdf i }),
-     omega (arith, c .loop-title .inv .1),
-     omega (arith, c .loop-title .inv .2))
+    let pdf = sumBy-counting-more (λ t. pdfAt (c .args .cells .now) (c .args .columns) t (c .args .column)) (c .loop-title .title) in (
+      (λ i. record { html = sum i .html + one i .html; pdf = sum i .pdf + one i .pdf }) ∙ sym (λ i. record { html = html i; pdf = pdf i }),
+      omega (arith, c .loop-title .inv .1),
+      omega (arith, c .loop-title .inv .2),
+    )
 
 pub returns : need.returns
 returns c =

@@ -12,10 +12,11 @@ pub loop-column-again : need.loop-column-again
 loop-column-again c =
     let added = c .add .ensures .added in
     let html = ap (λ (d : Counts). d .html) added in
-    let pdf = ap (λ (d : Counts). d .pdf) added in
-    (usage-more (htmlAt (c .args .cells .now) (c .args .columns) (c .args .title)) (pdfAt (c .args .cells .now) (c .args .columns) (c .args .title)) (c .loop-column .column) _ _ _ added (c .title-formats .ensures .formats) (omega (arith, c .add .ensures .full)) (c .loop-column .inv .0),
-     omega (arith, c .loop-column .inv .1),
-     omega (arith, c .loop-column .inv .2))
+    let pdf = ap (λ (d : Counts). d .pdf) added in (
+      usage-more (htmlAt (c .args .cells .now) (c .args .columns) (c .args .title)) (pdfAt (c .args .cells .now) (c .args .columns) (c .args .title)) (c .loop-column .column) _ _ _ added (c .title-formats .ensures .formats) (omega (arith, c .add .ensures .full)) (c .loop-column .inv .0),
+      omega (arith, c .loop-column .inv .1),
+      omega (arith, c .loop-column .inv .2),
+    )
 
 pub returns : need.returns
 returns c =

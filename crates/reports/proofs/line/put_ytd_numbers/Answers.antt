@@ -20,4 +20,4 @@ returns c =
     let u = usageOf (c .args .shape .columns) (c .args .counts .now) in
     subst (λ b. Put (c .args .out .now) (c .args .at) (joined nextCell (map decimal (ytdNumbers b u))) (c .put-number-cell .last .out) (c .put-number-cell .result)) (sym (not-false (c .args .shape .ytd) (c .if-not-shape .left)))
     (next _ _ _ _ _ _ _ _ (subst (λ n. Put (c .args .out .now) (c .args .at) (nextCell (decimal n)) (c .put-number-cell-at .last .out) (c .put-number-cell-at .result)) (c .total .ensures ∙ c .pre .total) (c .put-number-cell-at .ensures))
-      (next _ _ _ _ _ _ _ _ (c .put-number-cell-at-2 .ensures) (last _ _ _ _ _ (c .put-number-cell .ensures))))
+    (next _ _ _ _ _ _ _ _ (c .put-number-cell-at-2 .ensures) (last _ _ _ _ _ (c .put-number-cell .ensures))))

@@ -15,7 +15,7 @@ returns-then-end-out c =
     record {
       ends = c .saturating-add-end .ensures;
       holds = λ small room.
-        let end-is : c .saturating-add-end .result ≡ at + length bytes = c .saturating-add-end .ensures ∙ min-eq-left (omega arith) in
-        let e : c .saturating-add-end .result - at ≡ length bytes = omega arith in
-        (λ i. take at old ++ (c .copy-from-slice .ensures .after i ++ drop (e i) (drop at old))) ∙ ap (λ d. take at old ++ (bytes ++ d)) (drop-drop (length bytes) at old);
+          let end-is : c .saturating-add-end .result ≡ at + length bytes = c .saturating-add-end .ensures ∙ min-eq-left (omega arith) in
+          let e : c .saturating-add-end .result - at ≡ length bytes = omega arith in
+          (λ i. take at old ++ (c .copy-from-slice .ensures .after i ++ drop (e i) (drop at old))) ∙ ap (λ d. take at old ++ (bytes ++ d)) (drop-drop (length bytes) at old);
     }
