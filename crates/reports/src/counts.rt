@@ -1,7 +1,12 @@
 //! The numbers that a line shows, summed from the count table.
 ghost use mathlib.Core.Path.{_≡_};
 ghost use Prim.Native.Nat.{_+_, _*_, _^_, _<_, _≤_};
-ghost use lib.ListN.{length};
+ghost use lib.ListN.{length, set, take};
+ghost use Rattle.std.specs.shelf.Lawful.{all-pass};
+ghost use Rattle.reports.specs.Counting.{Balanced, htmlSum, pdfSum, usageOf};
+ghost use Rattle.reports.specs.Reports.{isLow, shownNumbers};
+ghost use Rattle.reports.specs.Tables.{htmlAt, pdfAt, usageBy};
+use columns::ColumnScheme;
 use titles::Title;
 
 /// The highest number that may be shown.
@@ -12,6 +17,19 @@ const HIGHEST: u64 = 1_000_000_000;
 pub(crate) struct Shape {
     pub columns: usize,
     pub ytd: bool,
+}
+
+impl Shape {
+    /// That of the lines under a scheme.
+    pub fn of<S: ColumnScheme>(scheme: &S) -> Shape
+        ensures shape { λ r. ⌜ r ≡ record { columns = length (S·ColumnScheme .layout (now (scheme .entry)) .headings); ytd = S·ColumnScheme .layout (now (scheme .entry)) .ytd } ⌝ }
+        ensures few { λ r. ⌜ r .columns ≤ 12 ⌝ }
+    {
+        Shape {
+            columns: scheme.columns(),
+            ytd: scheme.has_ytd(),
+        }
+    }
 }
 
 /// Requests by format.
@@ -35,8 +53,8 @@ impl Counts {
         requires column { ⌜ column < 12 ⌝ }
         requires formats { ⌜ (formats .html ≤ 2199023255552) × (formats .pdf ≤ 2199023255552) ⌝ }
         requires sums { ⌜ (now self .html ≤ column * 2199023255552) × (now self .pdf ≤ column * 2199023255552) ⌝ }
-        ensures html { λ _. ⌜ now (self .exit) .html ≡ now (self .entry) .html + formats .html ⌝ }
-        ensures pdf { λ _. ⌜ now (self .exit) .pdf ≡ now (self .entry) .pdf + formats .pdf ⌝ }
+        ensures added { λ _. ⌜ now (self .exit) ≡ record { numbers = set (now (self .entry) .numbers) column (formats .html + formats .pdf); html = now (self .entry) .html + formats .html; pdf = now (self .entry) .pdf + formats .pdf } ⌝ }
+        ensures full { λ _. ⌜ length (now (self .entry) .numbers) ≡ 12 ⌝ }
     {
         self.numbers[column] = formats.html + formats.pdf;
         self.html += formats.html;
@@ -45,28 +63,40 @@ impl Counts {
 
     /// The sum of all columns.
     pub fn total(&self) -> u64
-        requires { ⌜ (now self .html ≤ 2 ^ 45) × (now self .pdf ≤ 2 ^ 45) ⌝ }
+        requires { ⌜ (now self .html ≤ 35184372088832) × (now self .pdf ≤ 35184372088832) ⌝ }
+        ensures { λ r. ⌜ r ≡ now (self .entry) .html + now (self .entry) .pdf ⌝ }
     {
         self.html + self.pdf
     }
 
     /// Whether each number that is shown is low enough.
+    ///
+    /// No format's sum is over the total.
     pub fn can_be_shown(&self, shape: Shape) -> bool
         requires columns { ⌜ shape .columns ≤ 12 ⌝ }
-        requires sums { ⌜ (now self .html ≤ 2 ^ 45) × (now self .pdf ≤ 2 ^ 45) ⌝ }
+        requires balanced { ⌜ Balanced (shape .columns) (now self) ⌝ }
+        ensures { λ r. ⌜ r ≡ all-pass isLow (shownNumbers (shape .ytd) (usageOf (shape .columns) (now (self .entry)))) ⌝ }
     {
-        for column in 0..shape.columns {
+        self.columns_are_low(shape.columns) && (!shape.ytd || self.total() <= HIGHEST)
+    }
+
+    fn columns_are_low(&self, columns: usize) -> bool
+        requires { ⌜ columns ≤ 12 ⌝ }
+        ensures { λ r. ⌜ r ≡ all-pass isLow (take columns (now (self .entry) .numbers)) ⌝ }
+    {
+        for column in 0..columns {
             if self.numbers[column] > HIGHEST {
                 return false;
             }
         }
-        !shape.ytd || self.total() <= HIGHEST
+        true
     }
 }
 
 /// A title's requests in a column.
 fn title_formats(cells: &[u32], columns: usize, title: usize, column: usize) -> Formats
     requires { ⌜ (title * columns + column) * 2 + 1 < length (now cells) ⌝ }
+    ensures formats { λ r. ⌜ r ≡ record { html = htmlAt (now (cells .entry)) columns title column; pdf = pdfAt (now (cells .entry)) columns title column } ⌝ }
     ensures low { λ r. ⌜ (r .html < 2 ^ 32) × (r .pdf < 2 ^ 32) ⌝ }
 {
     let at = (title * columns + column) * 2;
@@ -81,6 +111,7 @@ fn column_formats(titles: &[Title<'_>], cells: &[u32], columns: usize, column: u
     requires table { ⌜ length (now cells) ≡ length (now titles) * columns * 2 ⌝ }
     requires few { ⌜ length (now titles) ≤ 512 ⌝ }
     requires column { ⌜ column < columns ⌝ }
+    ensures formats { λ r. ⌜ r ≡ record { html = htmlSum (now (cells .entry)) columns (length (now (titles .entry))) column; pdf = pdfSum (now (cells .entry)) columns (length (now (titles .entry))) column } ⌝ }
     ensures low { λ r. ⌜ (r .html ≤ 2199023255552) × (r .pdf ≤ 2199023255552) ⌝ }
 {
     let mut sum = Formats { html: 0, pdf: 0 };
@@ -96,7 +127,8 @@ fn column_formats(titles: &[Title<'_>], cells: &[u32], columns: usize, column: u
 pub(crate) fn title_counts(cells: &[u32], columns: usize, title: usize) -> Counts
     requires few { ⌜ columns ≤ 12 ⌝ }
     requires table { ⌜ (title + 1) * columns * 2 ≤ length (now cells) ⌝ }
-    ensures low { λ r. ⌜ (r .html ≤ 2 ^ 45) × (r .pdf ≤ 2 ^ 45) ⌝ }
+    ensures usage { λ r. ⌜ usageOf columns r ≡ usageBy (htmlAt (now (cells .entry)) columns title) (pdfAt (now (cells .entry)) columns title) columns ⌝ }
+    ensures balanced { λ r. ⌜ Balanced columns r ⌝ }
 {
     let mut counts = Counts {
         numbers: [0; 12],
@@ -113,7 +145,8 @@ pub(crate) fn title_counts(cells: &[u32], columns: usize, title: usize) -> Count
 pub(crate) fn total_counts(titles: &[Title<'_>], cells: &[u32], columns: usize) -> Counts
     requires table { ⌜ length (now cells) ≡ length (now titles) * columns * 2 ⌝ }
     requires few { ⌜ (length (now titles) ≤ 512) × (columns ≤ 12) ⌝ }
-    ensures low { λ r. ⌜ (r .html ≤ 2 ^ 45) × (r .pdf ≤ 2 ^ 45) ⌝ }
+    ensures usage { λ r. ⌜ usageOf columns r ≡ usageBy (htmlSum (now (cells .entry)) columns (length (now (titles .entry)))) (pdfSum (now (cells .entry)) columns (length (now (titles .entry)))) columns ⌝ }
+    ensures balanced { λ r. ⌜ Balanced columns r ⌝ }
 {
     let mut counts = Counts {
         numbers: [0; 12],

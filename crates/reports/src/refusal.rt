@@ -19,6 +19,6 @@ pub enum WriteRefusal {
     CellCount,
     /// A number to be shown is over 1,000,000,000.
     Number,
-    /// The report has more bytes, so many, than the buffer.
-    Buffer { length: usize },
+    /// The report has more bytes than the buffer.
+    Buffer,
 }

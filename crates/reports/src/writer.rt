@@ -1,7 +1,20 @@
 //! Writing a report.
+ghost use mathlib.Core.List.{map};
 ghost use mathlib.Core.Path.{_≡_};
-ghost use Prim.Native.Nat.{_*_, _^_, _≤_};
+ghost use Prim.Native.Nat.{_*_, _≤_};
 ghost use lib.ListN.{length};
+ghost use Rattle.std.specs.Joined.{joined};
+ghost use Rattle.std.specs.Results.{Cases};
+ghost use Rattle.std.specs.shelf.Lawful.{all-pass};
+ghost use Rattle.std.specs.shelf.Text.{sameBytes};
+ghost use Rattle.titles.specs.Titles.{entryOf};
+ghost use Rattle.reports.specs.Answers.{answer, bufferAfter, headOf, refusalNumber, subjectOf, text};
+ghost use Rattle.reports.specs.Checks.{Checked};
+ghost use Rattle.reports.specs.Counting.{TotalsOf};
+ghost use Rattle.reports.specs.Puts.{Put};
+ghost use Rattle.reports.specs.Reports.{shared};
+ghost use Rattle.reports.specs.Tables.{linesFrom, reportOf};
+ghost use Rattle.reports.specs.Written.{frontText, reportText, titleLine};
 use crate::check::check_header;
 use crate::check::check_titles;
 use crate::counts::Counts;
@@ -32,30 +45,43 @@ pub fn write<'a, R, S: ColumnScheme>(
     titles: &'a [Title<'a>],
     header: &Header<'a>,
     out: &mut [u8],
-) -> Result<usize, WriteRefusal> {
+) -> Result<usize, WriteRefusal>
+    ensures answer { λ r. ⌜ r ≡ answer (subjectOf (S·ColumnScheme .layout) (now (ledger .entry)) (now (cells .entry)) (now (titles .entry)) (now (header .entry))) (length (now (out .entry))) ⌝ }
+    ensures numbered { λ r. ⌜ Cases r (λ _. Unit {0}) (λ e. refusalNumber e ≡ 11) ⌝ }
+    ensures buffer { λ r. ⌜ now (out .exit) ≡ bufferAfter r (text (subjectOf (S·ColumnScheme .layout) (now (ledger .entry)) (now (cells .entry)) (now (titles .entry)) (now (header .entry)))) (now (out .entry)) ⌝ }
+{
+    let totals = checked_totals(ledger, cells, titles, header)?;
+    let mut none = [0; 0];
+    let length = put_report(&mut none, ledger.scheme(), cells, titles, header, &totals);
+    if length > out.len() {
+        return Err(WriteRefusal::Buffer);
+    }
+    Ok(put_report(out, ledger.scheme(), cells, titles, header, &totals))
+}
+
+/// Judges all but the buffer, and gives the numbers of the line for all journals.
+fn checked_totals<R, S: ColumnScheme>(
+    ledger: &Settled<R, S>,
+    cells: &[u32],
+    titles: &[Title<'_>],
+    header: &Header<'_>,
+) -> Result<Counts, WriteRefusal>
+    ensures { λ r. ⌜ Checked (subjectOf (S·ColumnScheme .layout) (now (ledger .entry)) (now (cells .entry)) (now (titles .entry)) (now (header .entry))) r ⌝ }
+{
     check_header(header)?;
     if titles.len() != ledger.titles() {
         return Err(WriteRefusal::TitleCount);
     }
     check_titles(titles)?;
-    let scheme = ledger.scheme();
-    if cells.len() != titles.len() * scheme.columns() * 2 {
+    let shape = Shape::of(ledger.scheme());
+    if cells.len() != titles.len() * shape.columns * 2 {
         return Err(WriteRefusal::CellCount);
     }
-    let shape = Shape {
-        columns: scheme.columns(),
-        ytd: scheme.has_ytd(),
-    };
     let totals = total_counts(titles, cells, shape.columns);
     if !totals.can_be_shown(shape) {
         return Err(WriteRefusal::Number);
     }
-    let mut none = [0; 0];
-    let length = put_report(&mut none, scheme, cells, titles, header, &totals, shape);
-    if length > out.len() {
-        return Err(WriteRefusal::Buffer { length });
-    }
-    Ok(put_report(out, scheme, cells, titles, header, &totals, shape))
+    Ok(totals)
 }
 
 /// Writes a report whose parts are what they should be.
@@ -66,12 +92,11 @@ fn put_report<'a, S: ColumnScheme>(
     titles: &'a [Title<'a>],
     header: &Header<'a>,
     totals: &Counts,
-    shape: Shape,
 ) -> usize
-    requires columns { ⌜ shape .columns ≤ 12 ⌝ }
-    requires table { ⌜ length (now cells) ≡ length (now titles) * shape .columns * 2 ⌝ }
-    requires sums { ⌜ (now totals .html ≤ 2 ^ 45) × (now totals .pdf ≤ 2 ^ 45) ⌝ }
+    requires { ⌜ TotalsOf (now cells) (length (S·ColumnScheme .layout (now scheme) .headings)) (map entryOf (now titles)) (now totals) ⌝ }
+    ensures { λ r. ⌜ (let l = S·ColumnScheme .layout (now (scheme .entry)) in Put (now (out .entry)) 0 (reportText l (reportOf (headOf (now (header .entry))) (now (cells .entry)) (length (l .headings)) (map entryOf (now (titles .entry))))) (now (out .exit)) r) ⌝ }
 {
+    let shape = Shape::of(scheme);
     let at = put_front(out, scheme, header);
     let at = put_heading_line(out, at, scheme);
     let label = Label {
@@ -86,7 +111,9 @@ fn put_report<'a, S: ColumnScheme>(
 }
 
 /// Writes the four lines above the table.
-fn put_front<S: ColumnScheme>(out: &mut [u8], scheme: &S, header: &Header<'_>) -> usize {
+fn put_front<S: ColumnScheme>(out: &mut [u8], scheme: &S, header: &Header<'_>) -> usize
+    ensures { λ r. ⌜ Put (now (out .entry)) 0 (frontText (S·ColumnScheme .layout (now (scheme .entry))) (headOf (now (header .entry)))) (now (out .exit)) r ⌝ }
+{
     let at = put_bytes(out, 0, scheme.report());
     let at = put_text_cell(out, at, scheme.description());
     let at = put_line_end(out, at);
@@ -106,6 +133,7 @@ fn put_title_lines<'a>(
 ) -> usize
     requires columns { ⌜ shape .columns ≤ 12 ⌝ }
     requires table { ⌜ length (now cells) ≡ length (now titles) * shape .columns * 2 ⌝ }
+    ensures { λ r. ⌜ Put (now (out .entry)) at (joined (titleLine (shape .ytd) (now (platform .entry))) (linesFrom (now (cells .entry)) (shape .columns) 0 (map entryOf (now (titles .entry))))) (now (out .exit)) r ⌝ }
 {
     let mut end = at;
     for title in 0..titles.len() {
@@ -116,14 +144,33 @@ fn put_title_lines<'a>(
 }
 
 /// The publisher of all titles, if they have the same one; else it is blank.
-fn shared_publisher<'a>(titles: &[Title<'a>]) -> &'a [u8] {
-    let [first, rest @ ..] = titles else {
+fn shared_publisher<'a>(titles: &[Title<'a>]) -> &'a [u8]
+    ensures { λ r. ⌜ now r ≡ shared (map (λ t. t .publisher .now) (now (titles .entry))) ⌝ }
+{
+    if titles.is_empty() {
         return b"";
-    };
-    for title in rest {
-        if title.publisher != first.publisher {
-            return b"";
+    }
+    let publisher = titles[0].publisher;
+    if all_published_by(titles, publisher) {
+        publisher
+    } else {
+        b""
+    }
+}
+
+fn all_published_by(titles: &[Title<'_>], publisher: &[u8]) -> bool
+    ensures { λ r. ⌜ r ≡ all-pass (sameBytes (now (publisher .entry))) (map (λ t. t .publisher .now) (now (titles .entry))) ⌝ }
+{
+    for title in 0..titles.len() {
+        if !same_bytes(publisher, titles[title].publisher) {
+            return false;
         }
     }
-    first.publisher
+    true
+}
+
+fn same_bytes(a: &[u8], b: &[u8]) -> bool
+    ensures { λ r. ⌜ r ≡ sameBytes (now (a .entry)) (now (b .entry)) ⌝ }
+{
+    a == b
 }
