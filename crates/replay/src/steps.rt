@@ -1,13 +1,12 @@
 //! One step of a run.
 ghost use mathlib.Core.Path.{_≡_};
-ghost use mathlib.Core.Bool.{true, false};
+ghost use mathlib.Core.Bool.{false};
 ghost use mathlib.Core.List.{List, _∷_};
 ghost use Prim.Native.Nat.{ℕ};
 ghost use lib.ListN.{drop, length};
 ghost use Rattle.std.specs.Results.{Cases};
 ghost use Rattle.records.specs.declared.request.Request.{Request};
 ghost use Rattle.runs.specs.Past.{Answer, drew, offered, noticed, settling, Past};
-ghost use Rattle.runs.specs.Books.{fits};
 ghost use Rattle.runs.specs.Law.{Stands};
 ghost use Rattle.ledger.specs.Answers.{outcome, verdict};
 ghost use Rattle.ledger.specs.Views.{books, setup};
