@@ -2,7 +2,7 @@
 -- come and the entries are named as they were before the run, and with a prime as they are after it.
 use mathlib.Core.Path.{_≡_}
 use mathlib.Core.Bool.{true}
-use mathlib.Core.List.{List, _∷_}
+use mathlib.Core.List.{List, _∷_, _++_}
 use Prim.Native.Nat.{ℕ}
 use lib.ListN.{length}
 use Rattle.std.specs.Results.{isOk}
@@ -13,14 +13,23 @@ use Rattle.records.specs.declared.request.Request.{Request}
 use Rattle.runs.specs.Rules.{Setup}
 use Rattle.runs.specs.Past.{granted, Past, settling}
 use Rattle.runs.specs.Law.{Stands}
+use Rattle.ledger.specs.declared.state.Open.{Open}
 use Rattle.ledger.specs.declared.state.Settled.{Settled}
 use Rattle.ledger.specs.declared.state.Terms.{Terms}
 use Rattle.ledger.specs.declared.state.Unopened.{Unopened}
 use Rattle.ledger.specs.Answers.{number}
 use Rattle.ledger.specs.Openings.{openable}
-use Rattle.ledger.specs.Views.{settledBooksOf}
+use Rattle.ledger.specs.Views.{books, settledBooksOf}
 use Rattle.replay.specs.declared.row.Entry.{Entry}
 use Rattle.replay.specs.Rows.{stepsOf, Told}
+
+-- a row of steps on an open ledger: with whatever past the ledger stood, it stands with the calls that the entries tell
+-- put into that past
+pub record Leads {R S : Type 0} (at : Terms R S → Setup) (old new : Open R S) (waiting : List Request) (cells : List ℕ) (waiting′ : List Request) (cells′ : List ℕ) (xs xs′ : List Item) (entries entries′ : List Entry) : Type 0 where
+  pub terms : new .terms ≡ old .terms
+  -- the steps stay what they were, and only the replies are entered
+  pub steps : stepsOf entries′ ≡ stepsOf entries
+  pub law : (before : Past) → Stands (at (old .terms)) before (books old waiting cells) → (p : Past) × Told xs entries′ p xs′ × Stands (at (new .terms)) (p ++ before) (books new waiting′ cells′)
 
 -- the run was led to its end: the calls that the entries tell, and the settling after them, are a past with which the
 -- settled ledger stands; a refused opening leaves everything as it was

@@ -6,4 +6,5 @@ mod steps;
 pub use row::Entry;
 pub use row::Reply;
 pub use row::Step;
+pub use runner::lead;
 pub use runner::run;

@@ -1,12 +1,12 @@
 //! A whole run.
 ghost use mathlib.Core.Path.{_≡_};
-ghost use mathlib.Core.List.{[], _∷_};
+ghost use mathlib.Core.List.{_∷_};
 ghost use lib.ListN.{length};
 ghost use Rattle.runs.specs.Past.{Call, Past};
 ghost use Rattle.runs.specs.Law.{Stands};
 ghost use Rattle.ledger.specs.Views.{books, setup};
-ghost use Rattle.replay.specs.Rows.{Made, stepsOf, Told};
-ghost use Rattle.replay.specs.Runs.{Runs};
+ghost use Rattle.replay.specs.Rows.{Made};
+ghost use Rattle.replay.specs.Runs.{Leads, Runs};
 use crate::row::Entry;
 use crate::row::Reply;
 use crate::row::Step;
@@ -51,17 +51,15 @@ fn perform<R: ReaderRule, S: ColumnScheme, Src: Source>(
     }
 }
 
-/// Performs the steps of all entries in their order, and enters the replies.
-fn perform_all<R: ReaderRule, S: ColumnScheme, Src: Source>(
+/// Leads an open ledger through the steps of all entries in their order, and enters the replies.
+pub fn lead<R: ReaderRule, S: ColumnScheme, Src: Source>(
     ledger: Open<R, S>,
     waiting: &mut [Request],
     cells: &mut [u32],
     source: &mut Src,
     entries: &mut [Entry],
 ) -> Open<R, S>
-    ensures terms { λ r. ⌜ r .terms ≡ ledger .terms ⌝ }
-    ensures steps { λ _. ⌜ stepsOf (now (entries .exit)) ≡ stepsOf (now (entries .entry)) ⌝ }
-    ensures law { λ r. ⌜ (Stands (setup (R·ReaderRule .relates) (S·ColumnScheme .place) (S·ColumnScheme .layout) (ledger .terms)) [] (books ledger (now (waiting .entry)) (now (cells .entry))) → (p : Past) × Told (Src·Source .items (now (source .entry))) (now (entries .exit)) p (Src·Source .items (now (source .exit))) × Stands (setup (R·ReaderRule .relates) (S·ColumnScheme .place) (S·ColumnScheme .layout) (r .terms)) p (books r (now (waiting .exit)) (now (cells .exit)))) ⌝ }
+    ensures { λ r. ⌜ Leads (setup (R·ReaderRule .relates) (S·ColumnScheme .place) (S·ColumnScheme .layout)) ledger r (now (waiting .entry)) (now (cells .entry)) (now (waiting .exit)) (now (cells .exit)) (Src·Source .items (now (source .entry))) (Src·Source .items (now (source .exit))) (now (entries .entry)) (now (entries .exit)) ⌝ }
 {
     let mut ledger = ledger;
     for i in 0..entries.len() {
@@ -88,7 +86,7 @@ pub fn run<R: ReaderRule, S: ColumnScheme, Src: Source>(
     ensures { λ r. ⌜ Runs (setup (R·ReaderRule .relates) (S·ColumnScheme .place) (S·ColumnScheme .layout)) (length (S·ColumnScheme .layout scheme .headings)) rule scheme titles limit (now (waiting .entry)) (now (cells .entry)) (now (waiting .exit)) (now (cells .exit)) (Src·Source .items (now (source .entry))) (Src·Source .items (now (source .exit))) (now (entries .entry)) (now (entries .exit)) r ⌝ }
 {
     let ledger = Open::new(rule, scheme, titles, limit, waiting, cells)?;
-    let ledger = perform_all(ledger, waiting, cells, source, entries);
+    let ledger = lead(ledger, waiting, cells, source, entries);
     match ledger.settle(waiting, cells) {
         Ok(settled) => Ok(settled),
         Err(_) => unreachable(),
