@@ -1,0 +1,63 @@
+//! Blocks taken from the front of a row.
+ghost use mathlib.Core.Path.{_≡_};
+ghost use lib.ListN.{length};
+ghost use Rattle.groups.specs.Frames.{counted, frames};
+ghost use Rattle.groups.specs.Views.{Came, Within, ends, heldBoth, left, withRest};
+use crate::block::Block;
+use crate::block::Blocks;
+
+/// The bytes that a two-byte length counts, and what stands behind them.
+fn split_counted(bytes: &[u8]) -> Option<(&[u8], &[u8])>
+    ensures { λ r. ⌜ heldBoth r ≡ withRest (now (bytes .entry)) (counted (now (bytes .entry))) ⌝ }
+{
+    let [high, low, rest @ ..] = bytes else {
+        return None;
+    };
+    let count = usize::from(*high) * 256 + usize::from(*low);
+    if count <= rest.len() {
+        Some(rest.split_at(count))
+    } else {
+        None
+    }
+}
+
+impl<'a> Blocks<'a> {
+    /// The blocks of lent bytes. Places count from the first of them, from 0.
+    pub fn new(bytes: &'a [u8]) -> Blocks<'a>
+        ensures divided { λ r. ⌜ left r ≡ frames 0 (now (bytes .entry)) ⌝ }
+        ensures ends { λ r. ⌜ ends r ≡ length (now (bytes .entry)) ⌝ }
+    {
+        Blocks {
+            rest: bytes,
+            place: 0,
+        }
+    }
+
+    /// The first block still to come; the others stay. At the end there is none, each time.
+    ///
+    /// A block that goes past the end is the last.
+    pub fn next(&mut self) -> Option<Block<'a>>
+        ensures came { λ r. ⌜ Came (left (now (self .entry))) r (left (now (self .exit))) ⌝ }
+        ensures within { λ r. ⌜ Within (ends (now (self .entry))) r (ends (now (self .exit))) ⌝ }
+    {
+        let place = self.place;
+        let [tag, after @ ..] = self.rest else {
+            return None;
+        };
+        let Some((contents, rest)) = split_counted(after) else {
+            self.rest = &[];
+            return Some(Block {
+                place,
+                tag: *tag,
+                contents: None,
+            });
+        };
+        self.rest = rest;
+        self.place = place + 3 + contents.len();
+        Some(Block {
+            place,
+            tag: *tag,
+            contents: Some(contents),
+        })
+    }
+}
