@@ -1,2 +1,4 @@
 pub mod Counting
 pub mod Dividing
+pub mod Writing
+pub mod Spelling

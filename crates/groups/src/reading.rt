@@ -1,8 +1,11 @@
 //! Blocks taken from the front of a row.
+ghost use mathlib.Core.List.{List, _++_};
 ghost use mathlib.Core.Path.{_≡_};
+ghost use Prim.Native.Nat.{ℕ};
 ghost use lib.ListN.{length};
 ghost use Rattle.groups.specs.Frames.{counted, frames};
 ghost use Rattle.groups.specs.Views.{Came, Within, ends, heldBoth, left, withRest};
+ghost use Rattle.groups.specs.Written.{Bytes, placed, writtenRow};
 use crate::block::Block;
 use crate::block::Blocks;
 
@@ -23,8 +26,13 @@ fn split_counted(bytes: &[u8]) -> Option<(&[u8], &[u8])>
 
 impl<'a> Blocks<'a> {
     /// The blocks of lent bytes. Places count from the first of them, from 0.
+    ///
+    /// Where a row of blocks was written, and anything behind it, these blocks come first. And where whole blocks come,
+    /// and no other, the bytes are these blocks, written.
     pub fn new(bytes: &'a [u8]) -> Blocks<'a>
         ensures divided { λ r. ⌜ left r ≡ frames 0 (now (bytes .entry)) ⌝ }
+        ensures written { λ r. ⌜ ((row : List (ℕ × List ℕ)) (rest : List ℕ) → now (bytes .entry) ≡ writtenRow row ++ rest → left r ≡ placed 0 row ++ frames (length (writtenRow row)) rest) ⌝ }
+        ensures spelled { λ r. ⌜ ((row : List (ℕ × List ℕ)) → Bytes (now (bytes .entry)) → left r ≡ placed 0 row → now (bytes .entry) ≡ writtenRow row) ⌝ }
         ensures ends { λ r. ⌜ ends r ≡ length (now (bytes .entry)) ⌝ }
     {
         Blocks {
