@@ -2,3 +2,4 @@ pub mod Counting
 pub mod Dividing
 pub mod Writing
 pub mod Spelling
+pub mod Whole

@@ -27,6 +27,10 @@ abbrev pub size : Option (List ℕ) → ℕ
 size None = 1
 size (Some bs) = 3 + length bs
 
+abbrev pub bytesOf : Option (List ℕ) → List ℕ
+bytesOf None = []
+bytesOf (Some bs) = bs
+
 -- what the lent bytes hold
 abbrev pub held : Option (RefT (List ℕ)) → Option (List ℕ)
 held None = None

@@ -1,3 +1,5 @@
 pub mod Fields
 pub mod Groups
 pub mod Logs
+pub mod Written
+pub mod Apart
