@@ -1,13 +1,20 @@
 //! Blocks taken from the front of a row.
 ghost use mathlib.Core.List.{List, _++_};
 ghost use mathlib.Core.Path.{_≡_};
-ghost use Prim.Native.Nat.{ℕ};
+ghost use Prim.Native.Nat.{ℕ, _+_, _*_};
 ghost use lib.ListN.{length};
 ghost use Rattle.groups.specs.Frames.{counted, frames};
 ghost use Rattle.groups.specs.Views.{Came, Within, ends, heldBoth, left, withRest};
-ghost use Rattle.groups.specs.Written.{Bytes, placed, writtenRow};
+ghost use Rattle.groups.specs.Written.{placed, writtenRow};
 use crate::block::Block;
 use crate::block::Blocks;
+
+/// The number in two bytes, the first of which counts most.
+fn count_of(high: u8, low: u8) -> usize
+    ensures { λ r. ⌜ r ≡ high * 256 + low ⌝ }
+{
+    usize::from(high) * 256 + usize::from(low)
+}
 
 /// The bytes that a two-byte length counts, and what stands behind them.
 fn split_counted(bytes: &[u8]) -> Option<(&[u8], &[u8])>
@@ -16,11 +23,22 @@ fn split_counted(bytes: &[u8]) -> Option<(&[u8], &[u8])>
     let [high, low, rest @ ..] = bytes else {
         return None;
     };
-    let count = usize::from(*high) * 256 + usize::from(*low);
+    let count = count_of(*high, *low);
     if count <= rest.len() {
         Some(rest.split_at(count))
     } else {
         None
+    }
+}
+
+/// The row of these bytes, all of whose blocks are still to come.
+fn row_of(bytes: &[u8]) -> Blocks
+    ensures divided { λ r. ⌜ left r ≡ frames 0 (now (bytes .entry)) ⌝ }
+    ensures ends { λ r. ⌜ ends r ≡ length (now (bytes .entry)) ⌝ }
+{
+    Blocks {
+        rest: bytes,
+        place: 0,
     }
 }
 
@@ -32,13 +50,10 @@ impl<'a> Blocks<'a> {
     pub fn new(bytes: &'a [u8]) -> Blocks<'a>
         ensures divided { λ r. ⌜ left r ≡ frames 0 (now (bytes .entry)) ⌝ }
         ensures written { λ r. ⌜ ((row : List (ℕ × List ℕ)) (rest : List ℕ) → now (bytes .entry) ≡ writtenRow row ++ rest → left r ≡ placed 0 row ++ frames (length (writtenRow row)) rest) ⌝ }
-        ensures spelled { λ r. ⌜ ((row : List (ℕ × List ℕ)) → Bytes (now (bytes .entry)) → left r ≡ placed 0 row → now (bytes .entry) ≡ writtenRow row) ⌝ }
+        ensures spelled { λ r. ⌜ ((row : List (ℕ × List ℕ)) → left r ≡ placed 0 row → now (bytes .entry) ≡ writtenRow row) ⌝ }
         ensures ends { λ r. ⌜ ends r ≡ length (now (bytes .entry)) ⌝ }
     {
-        Blocks {
-            rest: bytes,
-            place: 0,
-        }
+        row_of(bytes)
     }
 
     /// The first block still to come; the others stay. At the end there is none, each time.

@@ -6,3 +6,4 @@ pub mod Logging
 pub mod Parting
 pub mod Writing
 pub mod Causes
+pub mod Damaging

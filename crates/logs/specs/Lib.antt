@@ -3,3 +3,4 @@ pub mod Groups
 pub mod Logs
 pub mod Written
 pub mod Apart
+pub mod Damages

@@ -11,4 +11,4 @@ pub returns-then-count-rest : need.returns-then-count-rest
 returns-then-count-rest c =
     let l : 2 ≤ length (c .args .bytes .now) = search needs in
     let k = c .split-at .ensures in
-    (λ i. Some (k .front i, k .back i)) ∙ cut-at-count (c .args .bytes .now) (c .from .result * 256 + c .from-2 .result) l (omega arith) (c .if-count-rest .taken)
+    (λ i. Some (k .front i, k .back i)) ∙ cut-at-count (c .args .bytes .now) (c .count-of-count .result) l (c .count-of-count .ensures) (omega arith)
