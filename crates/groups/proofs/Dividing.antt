@@ -7,7 +7,7 @@ use native.Mathlib.Omega.{arith}
 use lib.ListN.{length, getD, drop}
 use Rattle.std.proofs.shelf.Lists.{length-drop, take-rest}
 use Rattle.std.specs.declared.option.Option.the-variants.{Some, None}
-use Rattle.groups.specs.Frames.{Frame, choose, counted, frames, framesAfter, newFrame}
+use Rattle.groups.specs.Frames.{choose, counted, frames, framesAfter, newFrame}
 use Rattle.groups.specs.Views.{withRest}
 use Rattle.groups.proofs.Counting.{behind, parts}
 
