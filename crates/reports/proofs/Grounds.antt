@@ -19,7 +19,7 @@ use Rattle.titles.specs.Titles.{Entry, entryOf, judge}
 use Rattle.reports.specs.declared.counts.Counts.{Counts}
 use Rattle.reports.specs.declared.refusal.WriteRefusal.{WriteRefusal}
 use Rattle.reports.specs.declared.refusal.WriteRefusal.the-variants.{Buffer, CellCount, Criteria, Date, Number, Platform, Title, TitleCount}
-use Rattle.reports.specs.Answers.{Subject, answer, bufferGround, columnsOf, firstGround, grounds, headGrounds, outcome, refusalNumber, tableGrounds, text, titleGround, titlesGround, unless}
+use Rattle.reports.specs.Answers.{Subject, answer, bufferGround, columnsOf, firstGround, grounds, headGrounds, outcome, refusalNumber, tableGrounds, textAbout, titleGround, titlesGround, unless}
 use Rattle.reports.specs.Checks.{Checked}
 use Rattle.reports.specs.Counting.{TotalsOf}
 use Rattle.reports.specs.Reports.{Line, isLow, tableNumbers}
@@ -136,14 +136,14 @@ module _ (s : Subject) (room : ℕ) where
   grouped = ap firstGround (append-assoc (headGrounds (s .head)) (tableGrounds s) buffer)
 
   pub answer-refused : (e : WriteRefusal) → Checked s (Err e) → Err e ≡ answer s room
-  answer-refused e is = ap (λ g. outcome g (length (text s))) (first-some e judgedGrounds buffer (is .ground) ∙ grouped)
+  answer-refused e is = ap (λ g. outcome g (length (textAbout s))) (first-some e judgedGrounds buffer (is .ground) ∙ grouped)
 
   module _ (t : Counts) (is : Checked s (Ok t)) where
     left : firstGround buffer ≡ firstGround (grounds s room)
     left = first-none judgedGrounds buffer (is .ground) ∙ grouped
 
-    pub answer-short : room < length (text s) → Err Buffer ≡ answer s room
-    answer-short short = ap (λ g. outcome g (length (text s))) (stopped Buffer (bufferGround s room) [] (bad (leb (length (text s)) room) Buffer (lt-leb (length (text s)) room short)) ∙ left)
+    pub answer-short : room < length (textAbout s) → Err Buffer ≡ answer s room
+    answer-short short = ap (λ g. outcome g (length (textAbout s))) (stopped Buffer (bufferGround s room) [] (bad (leb (length (textAbout s)) room) Buffer (lt-leb (length (textAbout s)) room short)) ∙ left)
 
-    pub answer-given : length (text s) ≤ room → Ok (length (text s)) ≡ answer s room
-    answer-given fits = ap (λ g. outcome g (length (text s))) (passed (bufferGround s room) [] (fine (leb (length (text s)) room) Buffer (le-leb (length (text s)) room fits)) ∙ left)
+    pub answer-given : length (textAbout s) ≤ room → Ok (length (textAbout s)) ≡ answer s room
+    answer-given fits = ap (λ g. outcome g (length (textAbout s))) (passed (bufferGround s room) [] (fine (leb (length (textAbout s)) room) Buffer (le-leb (length (textAbout s)) room fits)) ∙ left)

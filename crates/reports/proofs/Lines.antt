@@ -13,9 +13,8 @@ use Rattle.std.specs.shelf.Lists.{sumBy}
 use Rattle.titles.specs.declared.title.Title.{Title}
 use Rattle.titles.specs.Titles.{Entry, entryOf}
 use Rattle.reports.specs.Counting.{htmlSum, pdfSum}
-use Rattle.reports.specs.Labels.{titleText}
 use Rattle.reports.specs.Reports.{Line, Usage, columnSum, totals}
-use Rattle.reports.specs.Tables.{htmlAt, lineOf, linesFrom, pdfAt, usageBy}
+use Rattle.reports.specs.Tables.{htmlAt, lineOf, lineWith, linesFrom, pdfAt, usageBy}
 use Rattle.reports.specs.Written.{titleLine}
 use Rattle.reports.proofs.Sums.{map-counting-same, sumBy-plus, sumBy-swap}
 
@@ -56,7 +55,7 @@ module _ (cells : List ℕ) (n : ℕ) where
       λ i. record { columns = columns i; html = html i; pdf = pdf i }
 
   -- the line of a title, as it stands among all lines
-  pub line-is : (ytd : Bool) (platform : List ℕ) (titles : List Title) (i : ℕ) (d : Title) (u : Usage) → i < length titles → u ≡ usageBy (htmlAt cells n i) (pdfAt cells n i) n → titleText ytd platform (entryOf (getD titles i d)) u ≡ titleLine ytd platform (getD (linesFrom cells n 0 (map entryOf titles)) i (lineOf cells n i (entryOf d)))
+  pub line-is : (ytd : Bool) (platform : List ℕ) (titles : List Title) (i : ℕ) (d : Title) (u : Usage) → i < length titles → u ≡ usageBy (htmlAt cells n i) (pdfAt cells n i) n → titleLine ytd platform (lineWith (entryOf (getD titles i d)) u) ≡ titleLine ytd platform (getD (linesFrom cells n 0 (map entryOf titles)) i (lineOf cells n i (entryOf d)))
   line-is ytd platform titles i d u h is =
       let long = length-map titles entryOf in
-      ap (titleText ytd platform (entryOf (getD titles i d))) is ∙ sym (ap (titleLine ytd platform) (line-at 0 (map entryOf titles) i i (lineOf cells n i (entryOf d)) (entryOf d) (omega arith) (omega arith) ∙ ap (lineOf cells n i) (getD-map entryOf titles i d (entryOf d) h)))
+      ap (λ v. titleLine ytd platform (lineWith (entryOf (getD titles i d)) v)) is ∙ sym (ap (titleLine ytd platform) (line-at 0 (map entryOf titles) i i (lineOf cells n i (entryOf d)) (entryOf d) (omega arith) (omega arith) ∙ ap (lineOf cells n i) (getD-map entryOf titles i d (entryOf d) h)))

@@ -1,7 +1,7 @@
 -- A line's numbers, column by column.
 use mathlib.Core.List.{[], _∷_, _++_, map}
 use mathlib.Core.Path.{_≡_, sym, ap, _∙_}
-use Prim.Native.Nat.{ℕ, _+_, _*_, _≤_, _<_}
+use Prim.Native.Nat.{ℕ, _+_, _*_, _≤_, _<_, _^_}
 use native.Mathlib.Omega.{arith}
 use lib.ListN.{length, set, take}
 use Rattle.std.specs.Iters.{counting}
@@ -31,5 +31,5 @@ module _ (html pdf : ℕ → ℕ) (n : ℕ) where
   pub balance : sumBy html (counting 0 n) + sumBy pdf (counting 0 n) ≡ sum (map (λ k. html k + pdf k) (counting 0 n))
   balance = sym (sum-map (λ k. html k + pdf k) (counting 0 n) ∙ sumBy-plus html pdf (counting 0 n))
 
-  pub balanced : (c : Counts) → n ≤ 12 → usageOf n c ≡ usageBy html pdf n → c .html ≤ n * 2199023255552 → c .pdf ≤ n * 2199023255552 → Balanced n c
+  pub balanced : (c : Counts) → n ≤ 12 → usageOf n c ≡ usageBy html pdf n → c .html ≤ n * 2 ^ 41 → c .pdf ≤ n * 2 ^ 41 → Balanced n c
   balanced c few e h p = record { low = (omega arith, omega arith); total = (λ i. e i .html + e i .pdf) ∙ balance ∙ sym (λ i. sum (e i .columns)) }

@@ -64,11 +64,11 @@ subjectOf layout ledger cells titles header = record {
 abbrev pub columnsOf : Subject → ℕ
 columnsOf s = length (s .layout .headings)
 
-abbrev pub report : Subject → Report
-report s = reportOf (s .head) (s .cells) (columnsOf s) (s .entries)
+abbrev pub reportAbout : Subject → Report
+reportAbout s = reportOf (s .head) (s .cells) (columnsOf s) (s .entries)
 
-abbrev pub text : Subject → List ℕ
-text s = reportText (s .layout) (report s)
+abbrev pub textAbout : Subject → List ℕ
+textAbout s = reportText (s .layout) (reportAbout s)
 
 -- a ground, unless all is well
 abbrev pub unless : Bool → WriteRefusal → Option WriteRefusal
@@ -91,11 +91,11 @@ titlesGround t (e ∷ es) = titleGround t (judge e) (titlesGround (t + 1) es)
 -- the number of titles, each title, the length of the count table, and the numbers to be shown
 abbrev pub tableGrounds : Subject → List (Option WriteRefusal)
 tableGrounds s =
-    unless (eqb (length (s .entries)) (s .titles)) TitleCount ∷ titlesGround 0 (s .entries) ∷ unless (eqb (length (s .cells)) (s .titles * columnsOf s * 2)) CellCount ∷ unless (all-pass isLow (tableNumbers (s .layout .ytd) (columnsOf s) (report s .lines))) Number ∷ []
+    unless (eqb (length (s .entries)) (s .titles)) TitleCount ∷ titlesGround 0 (s .entries) ∷ unless (eqb (length (s .cells)) (s .titles * columnsOf s * 2)) CellCount ∷ unless (all-pass isLow (tableNumbers (s .layout .ytd) (columnsOf s) (reportAbout s .lines))) Number ∷ []
 
 -- a buffer of so many bytes is shorter than the report
 abbrev pub bufferGround : Subject → ℕ → Option WriteRefusal
-bufferGround s room = unless (leb (length (text s)) room) Buffer
+bufferGround s room = unless (leb (length (textAbout s)) room) Buffer
 
 -- the first ground that there is
 abbrev pub firstGround : List (Option WriteRefusal) → Option WriteRefusal
@@ -112,7 +112,7 @@ outcome (Some g) n = Err g
 
 -- the length of the report, unless there is a ground to refuse it
 abbrev pub answer : Subject → ℕ → Result ℕ WriteRefusal
-answer s room = outcome (firstGround (grounds s room)) (length (text s))
+answer s room = outcome (firstGround (grounds s room)) (length (textAbout s))
 
 -- the buffer after an answer: the report from its first byte on, or all as it was
 abbrev pub bufferAfter : Result ℕ WriteRefusal → List ℕ → List ℕ → List ℕ

@@ -1,7 +1,7 @@
 -- What the writer keeps while it counts.
 use mathlib.Core.List.{List}
 use mathlib.Core.Path.{_≡_}
-use Prim.Native.Nat.{ℕ, _+_, _*_, _≤_}
+use Prim.Native.Nat.{ℕ, _+_, _*_, _≤_, _^_}
 use lib.ListN.{length, take}
 use Rattle.std.specs.Iters.{counting}
 use Rattle.std.specs.shelf.Lists.{sum, sumBy}
@@ -23,7 +23,7 @@ pdfSum cells n m c = sumBy (λ t. pdfAt cells n t c) (counting 0 m)
 
 -- sums that 64 bits hold, whose sum is that of the columns
 pub record Balanced (n : ℕ) (c : Counts) : Type 0 where
-  pub low : (c .html ≤ 35184372088832) × (c .pdf ≤ 35184372088832)
+  pub low : (c .html ≤ 2 ^ 45) × (c .pdf ≤ 2 ^ 45)
   pub total : c .html + c .pdf ≡ sum (take n (c .numbers))
 
 -- the numbers of the line for all journals, of a count table with two cells to each title and column

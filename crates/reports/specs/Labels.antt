@@ -3,7 +3,6 @@ use mathlib.Core.Bool.{Bool}
 use mathlib.Core.List.{List, [], _∷_, _++_}
 use Prim.Native.Nat.{ℕ}
 use Rattle.std.specs.Joined.{joined}
-use Rattle.titles.specs.Titles.{Entry, issnBytes}
 use Rattle.reports.specs.declared.line.Label.{Label}
 use Rattle.reports.specs.Reports.{Usage}
 use Rattle.reports.specs.Written.{nextCell, usageLine}
@@ -16,7 +15,3 @@ labelText l = l .name .now ++ joined nextCell (l .publisher .now ∷ l .platform
 abbrev pub labelledLine : Bool → Label → Usage → List ℕ
 labelledLine ytd l u =
     usageLine ytd (l .name .now) (l .publisher .now) (l .platform .now) (l .print .now) (l .online .now) u
-
--- the line of a title
-abbrev pub titleText : Bool → List ℕ → Entry → Usage → List ℕ
-titleText ytd platform e u = usageLine ytd (e .name) (e .publisher) platform (issnBytes (e .print)) (issnBytes (e .online)) u

@@ -22,14 +22,18 @@ usageBy html pdf n = record {
   pdf = sumBy pdf (counting 0 n);
 }
 
-abbrev pub lineOf : List ℕ → ℕ → ℕ → Entry → Line
-lineOf cells n t e = record {
+-- a title's line with its numbers
+abbrev pub lineWith : Entry → Usage → Line
+lineWith e u = record {
   name = e .name;
   publisher = e .publisher;
   print = issnBytes (e .print);
   online = issnBytes (e .online);
-  usage = usageBy (htmlAt cells n t) (pdfAt cells n t) n;
+  usage = u;
 }
+
+abbrev pub lineOf : List ℕ → ℕ → ℕ → Entry → Line
+lineOf cells n t e = lineWith e (usageBy (htmlAt cells n t) (pdfAt cells n t) n)
 
 -- a line to each title, the first of which is title t
 abbrev pub linesFrom : List ℕ → ℕ → ℕ → List Entry → List Line

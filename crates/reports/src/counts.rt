@@ -51,8 +51,8 @@ impl Counts {
     /// Puts the sum of a column's formats into the column, and adds them to the sums.
     fn add(&mut self, column: usize, formats: Formats)
         requires column { ⌜ column < 12 ⌝ }
-        requires formats { ⌜ (formats .html ≤ 2199023255552) × (formats .pdf ≤ 2199023255552) ⌝ }
-        requires sums { ⌜ (now self .html ≤ column * 2199023255552) × (now self .pdf ≤ column * 2199023255552) ⌝ }
+        requires formats { ⌜ (formats .html ≤ 2 ^ 41) × (formats .pdf ≤ 2 ^ 41) ⌝ }
+        requires sums { ⌜ (now self .html ≤ column * 2 ^ 41) × (now self .pdf ≤ column * 2 ^ 41) ⌝ }
         ensures added { λ _. ⌜ now (self .exit) ≡ record { numbers = set (now (self .entry) .numbers) column (formats .html + formats .pdf); html = now (self .entry) .html + formats .html; pdf = now (self .entry) .pdf + formats .pdf } ⌝ }
         ensures full { λ _. ⌜ length (now (self .entry) .numbers) ≡ 12 ⌝ }
     {
@@ -63,7 +63,7 @@ impl Counts {
 
     /// The sum of all columns.
     pub fn total(&self) -> u64
-        requires { ⌜ (now self .html ≤ 35184372088832) × (now self .pdf ≤ 35184372088832) ⌝ }
+        requires { ⌜ (now self .html ≤ 2 ^ 45) × (now self .pdf ≤ 2 ^ 45) ⌝ }
         ensures { λ r. ⌜ r ≡ now (self .entry) .html + now (self .entry) .pdf ⌝ }
     {
         self.html + self.pdf
@@ -112,10 +112,10 @@ fn column_formats(titles: &[Title<'_>], cells: &[u32], columns: usize, column: u
     requires few { ⌜ length (now titles) ≤ 512 ⌝ }
     requires column { ⌜ column < columns ⌝ }
     ensures formats { λ r. ⌜ r ≡ record { html = htmlSum (now (cells .entry)) columns (length (now (titles .entry))) column; pdf = pdfSum (now (cells .entry)) columns (length (now (titles .entry))) column } ⌝ }
-    ensures low { λ r. ⌜ (r .html ≤ 2199023255552) × (r .pdf ≤ 2199023255552) ⌝ }
+    ensures low { λ r. ⌜ (r .html ≤ 2 ^ 41) × (r .pdf ≤ 2 ^ 41) ⌝ }
 {
     let mut sum = Formats { html: 0, pdf: 0 };
-    for title in 0..titles.len() {
+    for (title, _) in titles.iter().enumerate() {
         let formats = title_formats(cells, columns, title, column);
         sum.html += formats.html;
         sum.pdf += formats.pdf;

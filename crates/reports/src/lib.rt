@@ -3,6 +3,7 @@ mod check;
 mod counts;
 mod header;
 mod line;
+mod publisher;
 mod put;
 mod refusal;
 mod writer;

@@ -1,16 +1,17 @@
 //! The lines of a report.
-ghost use mathlib.Core.List.{[], _∷_, _++_, map};
+ghost use mathlib.Core.List.{[], map};
 ghost use mathlib.Core.Path.{_≡_};
-ghost use Prim.Native.Nat.{_^_, _≤_};
-ghost use lib.ListN.{getD, length, take};
+ghost use Prim.Native.Nat.{_≤_};
+ghost use lib.ListN.{getD, take};
 ghost use Rattle.std.specs.Joined.{joined};
 ghost use Rattle.std.specs.Written.{decimal};
 ghost use Rattle.titles.specs.Titles.{entryOf, issnBytes};
 ghost use Rattle.reports.specs.Counting.{Balanced, usageOf};
-ghost use Rattle.reports.specs.Labels.{labelText, labelledLine, titleText};
+ghost use Rattle.reports.specs.Labels.{labelText, labelledLine};
 ghost use Rattle.reports.specs.Puts.{Put};
 ghost use Rattle.reports.specs.Reports.{ytdNumbers};
-ghost use Rattle.reports.specs.Written.{dateText, headingLine, lineText, nextCell, twoDigits, ytdHeadings};
+ghost use Rattle.reports.specs.Tables.{lineWith};
+ghost use Rattle.reports.specs.Written.{dateText, headingLine, lineText, nextCell, titleLine, twoDigits, ytdHeadings};
 use crate::counts::Counts;
 use crate::counts::Shape;
 use crate::header::Date;
@@ -173,7 +174,7 @@ pub(crate) fn put_title_line<'a>(
 ) -> usize
     requires columns { ⌜ shape .columns ≤ 12 ⌝ }
     requires balanced { ⌜ Balanced (shape .columns) (now counts) ⌝ }
-    ensures { λ r. ⌜ Put (now (out .entry)) at (titleText (shape .ytd) (now (platform .entry)) (entryOf (now (title .entry))) (usageOf (shape .columns) (now (counts .entry)))) (now (out .exit)) r ⌝ }
+    ensures { λ r. ⌜ Put (now (out .entry)) at (titleLine (shape .ytd) (now (platform .entry)) (lineWith (entryOf (now (title .entry))) (usageOf (shape .columns) (now (counts .entry))))) (now (out .exit)) r ⌝ }
 {
     let label = Label {
         name: title.name,

@@ -5,14 +5,11 @@ ghost use Prim.Native.Nat.{_*_, _≤_};
 ghost use lib.ListN.{length};
 ghost use Rattle.std.specs.Joined.{joined};
 ghost use Rattle.std.specs.Results.{Cases};
-ghost use Rattle.std.specs.shelf.Lawful.{all-pass};
-ghost use Rattle.std.specs.shelf.Text.{sameBytes};
 ghost use Rattle.titles.specs.Titles.{entryOf};
-ghost use Rattle.reports.specs.Answers.{answer, bufferAfter, headOf, refusalNumber, subjectOf, text};
+ghost use Rattle.reports.specs.Answers.{answer, bufferAfter, headOf, refusalNumber, subjectOf, textAbout};
 ghost use Rattle.reports.specs.Checks.{Checked};
 ghost use Rattle.reports.specs.Counting.{TotalsOf};
 ghost use Rattle.reports.specs.Puts.{Put};
-ghost use Rattle.reports.specs.Reports.{shared};
 ghost use Rattle.reports.specs.Tables.{linesFrom, reportOf};
 ghost use Rattle.reports.specs.Written.{frontText, reportText, titleLine};
 use crate::check::check_header;
@@ -28,6 +25,7 @@ use crate::line::put_date_line;
 use crate::line::put_heading_line;
 use crate::line::put_single_line;
 use crate::line::put_title_line;
+use crate::publisher::shared_publisher;
 use crate::put::put_bytes;
 use crate::put::put_line_end;
 use crate::put::put_text_cell;
@@ -48,7 +46,7 @@ pub fn write<'a, R, S: ColumnScheme>(
 ) -> Result<usize, WriteRefusal>
     ensures answer { λ r. ⌜ r ≡ answer (subjectOf (S·ColumnScheme .layout) (now (ledger .entry)) (now (cells .entry)) (now (titles .entry)) (now (header .entry))) (length (now (out .entry))) ⌝ }
     ensures numbered { λ r. ⌜ Cases r (λ _. Unit {0}) (λ e. refusalNumber e ≡ 11) ⌝ }
-    ensures buffer { λ r. ⌜ now (out .exit) ≡ bufferAfter r (text (subjectOf (S·ColumnScheme .layout) (now (ledger .entry)) (now (cells .entry)) (now (titles .entry)) (now (header .entry)))) (now (out .entry)) ⌝ }
+    ensures buffer { λ r. ⌜ now (out .exit) ≡ bufferAfter r (textAbout (subjectOf (S·ColumnScheme .layout) (now (ledger .entry)) (now (cells .entry)) (now (titles .entry)) (now (header .entry)))) (now (out .entry)) ⌝ }
 {
     let totals = checked_totals(ledger, cells, titles, header)?;
     let mut none = [0; 0];
@@ -141,36 +139,4 @@ fn put_title_lines<'a>(
         end = put_title_line(out, end, &titles[title], platform, &counts, shape);
     }
     end
-}
-
-/// The publisher of all titles, if they have the same one; else it is blank.
-fn shared_publisher<'a>(titles: &[Title<'a>]) -> &'a [u8]
-    ensures { λ r. ⌜ now r ≡ shared (map (λ t. t .publisher .now) (now (titles .entry))) ⌝ }
-{
-    if titles.is_empty() {
-        return b"";
-    }
-    let publisher = titles[0].publisher;
-    if all_published_by(titles, publisher) {
-        publisher
-    } else {
-        b""
-    }
-}
-
-fn all_published_by(titles: &[Title<'_>], publisher: &[u8]) -> bool
-    ensures { λ r. ⌜ r ≡ all-pass (sameBytes (now (publisher .entry))) (map (λ t. t .publisher .now) (now (titles .entry))) ⌝ }
-{
-    for title in 0..titles.len() {
-        if !same_bytes(publisher, titles[title].publisher) {
-            return false;
-        }
-    }
-    true
-}
-
-fn same_bytes(a: &[u8], b: &[u8]) -> bool
-    ensures { λ r. ⌜ r ≡ sameBytes (now (a .entry)) (now (b .entry)) ⌝ }
-{
-    a == b
 }

@@ -1,6 +1,6 @@
 -- The columns before this one are counted, each of which adds at most 2 ^ 41 to either sum.
 use mathlib.Core.Path.{_≡_}
-use Prim.Native.Nat.{_*_, _≤_}
+use Prim.Native.Nat.{_*_, _≤_, _^_}
 use lib.ListN.{length}
 use Rattle.reports.specs.Counting.{htmlSum, pdfSum, usageOf}
 use Rattle.reports.specs.Tables.{usageBy}
@@ -9,5 +9,5 @@ use Rattle.reports.proofs.counts.total_counts.Given as given
 abbrev pub Inv-loop-column : given.InvT-loop-column
 Inv-loop-column l =
     (usageOf (l .column) (l .counts) ≡ usageBy (htmlSum (l .cells) (l .columns) (length (l .titles))) (pdfSum (l .cells) (l .columns) (length (l .titles))) (l .column))
-    × (l .counts .html ≤ l .column * 2199023255552)
-    × (l .counts .pdf ≤ l .column * 2199023255552)
+    × (l .counts .html ≤ l .column * 2 ^ 41)
+    × (l .counts .pdf ≤ l .column * 2 ^ 41)

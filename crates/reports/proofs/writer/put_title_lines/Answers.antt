@@ -4,7 +4,6 @@ use native.Mathlib.Omega.{arith}
 use lib.ListN.{getD, length}
 use Rattle.std.proofs.shelf.Lists.{getD-map, length-map}
 use Rattle.titles.specs.Titles.{entryOf}
-use Rattle.reports.specs.Labels.{titleText}
 use Rattle.reports.specs.Puts.{Put}
 use Rattle.reports.specs.Tables.{htmlAt, lineOf, linesFrom, pdfAt, usageBy}
 use Rattle.reports.specs.Written.{titleLine}

@@ -7,7 +7,7 @@ use lib.ListN.{drop, length}
 use Rattle.std.proofs.shelf.Results.{err-from-errBy}
 use Rattle.std.specs.Results.{Cases}
 use Rattle.std.specs.declared.result.Result.the-variants.{Ok, Err}
-use Rattle.reports.specs.Answers.{answer, bufferAfter, refusalNumber, subjectOf, text}
+use Rattle.reports.specs.Answers.{answer, bufferAfter, refusalNumber, subjectOf, textAbout}
 use Rattle.reports.specs.Puts.{Put}
 use Rattle.reports.specs.Tables.{reportOf}
 use Rattle.reports.specs.Written.{reportText}
@@ -25,7 +25,7 @@ returns-in-Break-totals g c =
     record {
       answer = is ∙ answer-refused s (length old) e (c .in-Break-totals .ensures tt);
       numbered = subst (λ r. Cases r (λ _. Unit {0}) (λ x. refusalNumber x ≡ 11)) (sym is) (numbered e);
-      buffer = sym (ap (λ r. bufferAfter r (text s) old) is);
+      buffer = sym (ap (λ r. bufferAfter r (textAbout s) old) is);
     }
 
 pub returns-then-length-out : need.returns-then-length-out
@@ -36,7 +36,7 @@ returns-then-length-out g c =
     let same = ap (λ x. let l = g .S·ColumnScheme .layout x in reportText l (reportOf (s .head) (s .cells) (length (l .headings)) (s .entries))) (c .scheme .ensures) in
     let measured = c .put-report-length .ensures .ends ∙ ap (λ t. min (0 + length t) (2 ^ 64 - 1)) same in
     record {
-      answer = answer-short s (length old) _ (c .in-Continue-totals .ensures tt) (too-long old old (text s) room _ measured (omega arith));
+      answer = answer-short s (length old) _ (c .in-Continue-totals .ensures tt) (too-long old old (textAbout s) room _ measured (omega arith));
       numbered = refl;
       buffer = refl;
     }
@@ -50,10 +50,10 @@ returns g c =
     let same-2 = ap (λ x. let l = g .S·ColumnScheme .layout x in reportText l (reportOf (s .head) (s .cells) (length (l .headings)) (s .entries))) (c .scheme-2 .ensures) in
     let measured = c .put-report-length .ensures .ends ∙ ap (λ t. min (0 + length t) (2 ^ 64 - 1)) same in
     let put = subst (λ t. Put old 0 t (c .put-report .last .out) (c .put-report .result)) same-2 (c .put-report .ensures) in
-    let long = fits old old (text s) room _ measured (omega arith) in
-    let done = given old (c .put-report .last .out) (text s) room _ measured _ long put in
+    let long = fits old old (textAbout s) room _ measured (omega arith) in
+    let done = given old (c .put-report .last .out) (textAbout s) room _ measured _ long put in
     record {
       answer = ap Ok (done .0) ∙ answer-given s (length old) _ (c .in-Continue-totals .ensures tt) long;
       numbered = tt;
-      buffer = done .1 ∙ ap (λ n. text s ++ drop n old) (sym (done .0));
+      buffer = done .1 ∙ ap (λ n. textAbout s ++ drop n old) (sym (done .0));
     }

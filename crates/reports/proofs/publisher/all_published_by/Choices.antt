@@ -5,7 +5,7 @@ use lib.ListN.{drop}
 use Rattle.std.specs.shelf.Lawful.{all-pass}
 use Rattle.std.specs.shelf.Text.{sameBytes}
 use Rattle.titles.specs.declared.title.Title.{Title}
-use Rattle.reports.proofs.writer.all_published_by.Given as given
+use Rattle.reports.proofs.publisher.all_published_by.Given as given
 
 abbrev pub Inv-loop-title : given.InvT-loop-title
 Inv-loop-title l =

@@ -3,7 +3,7 @@ use mathlib.Core.Path.{_≡_, refl, sym}
 use Rattle.std.specs.Orderings.{Decides}
 use Rattle.std.proofs.shelf.Equals.{matches-decides, sameBytes-decides}
 use Rattle.std.specs.shelf.Text.{sameBytes}
-use Rattle.reports.proofs.writer.same_bytes.Needs as need
+use Rattle.reports.proofs.publisher.same_bytes.Needs as need
 
 -- two tests of one fact agree
 agree : (P : Type 0) (a b : Bool) → Decides a P → Decides b P → a ≡ b

@@ -1,5 +1,5 @@
 use Rattle.reports.proofs.Publishers.{shared-no, shared-none, shared-yes}
-use Rattle.reports.proofs.writer.shared_publisher.Needs as need
+use Rattle.reports.proofs.publisher.shared_publisher.Needs as need
 
 pub returns-then-is-empty : need.returns-then-is-empty
 returns-then-is-empty c = shared-none (c .args .titles .now) (c .if-is-empty .ensures tt)

@@ -1,7 +1,7 @@
 use mathlib.Core.Path.{_∙_}
 use native.Mathlib.Omega.{arith}
 use Rattle.reports.proofs.Publishers.{published-all, published-more, published-stop}
-use Rattle.reports.proofs.writer.all_published_by.Needs as need
+use Rattle.reports.proofs.publisher.all_published_by.Needs as need
 
 pub loop-title-again : need.loop-title-again
 loop-title-again c =
