@@ -1,4 +1,8 @@
-//! Reads logs that are written out below, byte by byte, and prints what becomes of each item.
+//! Draws logs that are written out below, byte by byte, and prints each item and what becomes of it.
+mod drawing;
+
+use drawing::Fate;
+use drawing::fates;
 use logs::Log;
 use logs::LogSource;
 use logs::cause_number;
@@ -118,7 +122,7 @@ fn print_damage(rt: &LibcRuntime, damage: Damage) -> Result<(), AnyError> {
     let number = cause_number(damage.cause);
     let words = words(damage.cause);
     let place = damage.place;
-    println!(rt, "  unreadable, cause {number}, {words}, at {place}")?;
+    print!(rt, "  unreadable, cause {number}, {words}, at {place}")?;
     Ok(())
 }
 
@@ -143,18 +147,33 @@ fn print_request(rt: &LibcRuntime, request: Request) -> Result<(), AnyError> {
         rt,
         ", published {published}, address {address}, session cookie {session_cookie}"
     )?;
-    println!(rt, ", user cookie {user_cookie}, user name {user_name}")?;
+    print!(rt, ", user cookie {user_cookie}, user name {user_name}")?;
     Ok(())
 }
 
-/// The items of a log, and once more that there are no others.
+fn print_fate(rt: &LibcRuntime, fate: Option<Fate>) -> Result<(), AnyError> {
+    match fate {
+        Some(Fate::Accepted) => println!(rt, ": accepted")?,
+        Some(Fate::PassedOver) => println!(rt, ": passed over")?,
+        Some(Fate::Refused) => println!(rt, ": refused")?,
+        None => println!(rt, ": not drawn")?,
+    }
+    Ok(())
+}
+
+/// The items of a log with their fates, and once more that there are no others.
 fn print_items(rt: &LibcRuntime, bytes: &[u8]) -> Result<(), AnyError> {
+    let Some(fates) = fates(bytes) else {
+        return Err("no ledger was opened".into());
+    };
     let mut log = Log::new(bytes);
-    while let Some(item) = log.take() {
-        match item {
-            Item::Readable(request) => print_request(rt, request)?,
-            Item::Unreadable(damage) => print_damage(rt, damage)?,
+    for fate in &fates {
+        match log.take() {
+            Some(Item::Readable(request)) => print_request(rt, request)?,
+            Some(Item::Unreadable(damage)) => print_damage(rt, damage)?,
+            None => break,
         }
+        print_fate(rt, *fate)?;
     }
     if log.take().is_none() {
         println!(rt, "  end")?;
