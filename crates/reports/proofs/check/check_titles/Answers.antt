@@ -1,3 +1,4 @@
+-- The first unfit title is the one that stops the loop.
 use mathlib.Core.Path.{_∙_}
 use native.Mathlib.Omega.{arith}
 use Rattle.reports.proofs.Grounds.{titles-all, titles-more, titles-stop}

@@ -1,3 +1,4 @@
+-- One more title's cells are in the table, and add to the sums.
 use mathlib.Core.Path.{_≡_, sym, subst, _∙_}
 use native.Mathlib.Omega.{arith}
 use Prim.Native.Nat.{_+_}

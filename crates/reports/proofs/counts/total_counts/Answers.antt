@@ -1,3 +1,4 @@
+-- One more column of the line for all journals.
 use mathlib.Core.Path.{_≡_, ap, subst}
 use native.Mathlib.Omega.{arith}
 use Prim.Native.Nat.{_*_, _≤_}

@@ -1,3 +1,4 @@
+-- What a scheme lends is its heading there, and nothing past the last.
 use Rattle.reports.proofs.Headings.{heading-none, heading-some}
 use Rattle.reports.proofs.line.heading_or_blank.Needs as need
 

@@ -1,3 +1,4 @@
+-- The texts, the columns, the year-to-date numbers and the end make the line.
 use mathlib.Core.List.{[], _∷_, _++_, map}
 use mathlib.Core.Path.{sym, subst}
 use lib.ListN.{take}

@@ -1,3 +1,4 @@
+-- The texts, the headings, those of the year to date and the end make the line.
 use mathlib.Core.List.{[], _∷_}
 use mathlib.Core.Path.{subst}
 use lib.Chars.{codes}

@@ -1,3 +1,4 @@
+-- One more heading.
 use native.Mathlib.Omega.{arith}
 use mathlib.Core.List.{[]}
 use mathlib.Core.Path.{subst}

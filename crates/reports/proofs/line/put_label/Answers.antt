@@ -1,3 +1,4 @@
+-- Five cells one after another.
 use Rattle.reports.proofs.Steps.{last, next}
 use Rattle.reports.proofs.line.put_label.Needs as need
 

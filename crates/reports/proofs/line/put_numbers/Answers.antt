@@ -1,3 +1,4 @@
+-- One more number.
 use mathlib.Core.List.{[], map}
 use mathlib.Core.Path.{_≡_, sym, ap, subst, _∙_}
 use native.Mathlib.Omega.{arith}

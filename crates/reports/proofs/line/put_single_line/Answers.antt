@@ -1,3 +1,4 @@
+-- The cell, and then the end of the line.
 use Rattle.reports.specs.Written.{lineEnd}
 use Rattle.reports.proofs.Steps.{next}
 use Rattle.reports.proofs.line.put_single_line.Needs as need

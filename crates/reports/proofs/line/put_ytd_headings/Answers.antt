@@ -1,3 +1,4 @@
+-- Three headings, or none.
 use mathlib.Core.Path.{sym, subst}
 use Rattle.std.specs.Joined.{joined}
 use Rattle.reports.specs.Puts.{Put}

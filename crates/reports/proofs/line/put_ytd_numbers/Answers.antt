@@ -1,3 +1,4 @@
+-- Three numbers, or none; the total is the sum of the columns.
 use mathlib.Core.Path.{sym, subst, _∙_}
 use mathlib.Core.List.{map}
 use Rattle.std.specs.Joined.{joined}

@@ -1,3 +1,4 @@
+-- The first title of another publisher decides.
 use mathlib.Core.Path.{_∙_}
 use native.Mathlib.Omega.{arith}
 use Rattle.reports.proofs.Publishers.{published-all, published-more, published-stop}

@@ -1,3 +1,4 @@
+-- The library compares slices as the definition compares rows of bytes.
 use mathlib.Core.Bool.{Bool, true, false}
 use mathlib.Core.Path.{_≡_, refl, sym}
 use Rattle.std.specs.Orderings.{Decides}

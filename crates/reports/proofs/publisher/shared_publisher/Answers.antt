@@ -1,3 +1,4 @@
+-- The first publisher is shared if all titles have it.
 use Rattle.reports.proofs.Publishers.{shared-no, shared-none, shared-yes}
 use Rattle.reports.proofs.publisher.shared_publisher.Needs as need
 

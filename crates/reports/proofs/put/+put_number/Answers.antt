@@ -1,3 +1,4 @@
+-- The last digit stands behind those of a tenth.
 use mathlib.Core.Path.{_≡_, subst, sym}
 use mathlib.Core.List.{[], _∷_}
 use Prim.Native.Nat.{_+_, _/_, _%_, _<_, _^_}

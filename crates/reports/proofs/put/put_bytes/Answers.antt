@@ -1,3 +1,4 @@
+-- A copy into the part of the buffer that it fits.
 use mathlib.Core.Path.{_≡_, refl, ap, _∙_}
 use mathlib.Core.List.{_++_}
 use Prim.Native.Nat.{_+_, _-_}

@@ -1,3 +1,4 @@
+-- The comma, and then the number.
 use mathlib.Core.List.{[], _∷_}
 use Rattle.std.specs.Written.{decimal}
 use Rattle.reports.proofs.Steps.{next}

@@ -1,3 +1,4 @@
+-- The comma, and then the text.
 use mathlib.Core.List.{[], _∷_}
 use Rattle.reports.proofs.Steps.{next}
 use Rattle.reports.proofs.put.put_text_cell.Needs as need

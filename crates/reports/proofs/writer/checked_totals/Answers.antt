@@ -1,3 +1,4 @@
+-- Each exit tells the first ground there is; the last has the numbers of line 6.
 use mathlib.Core.Path.{_≡_, sym, ap, subst, _∙_}
 use native.Mathlib.Omega.{arith}
 use Prim.Native.Nat.{_*_}

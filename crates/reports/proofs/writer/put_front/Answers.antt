@@ -1,3 +1,4 @@
+-- Four lines one after another.
 use mathlib.Core.List.{[], _∷_, _++_}
 use mathlib.Core.Path.{subst}
 use Rattle.reports.specs.Puts.{Put}

@@ -1,3 +1,4 @@
+-- The four lines above the table, its two first lines, and those of the titles.
 use mathlib.Core.List.{[], map}
 use mathlib.Core.Path.{_≡_, sym, ap, subst, _∙_}
 use native.Mathlib.Omega.{arith}

@@ -1,3 +1,4 @@
+-- One more title, whose cells are in the table.
 use mathlib.Core.List.{map}
 use mathlib.Core.Path.{_≡_, sym, ap, subst, _∙_}
 use native.Mathlib.Omega.{arith}

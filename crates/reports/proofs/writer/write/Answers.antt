@@ -1,3 +1,4 @@
+-- A ground that was found, a buffer that is too short, or the report in the buffer.
 use mathlib.Core.List.{_++_, map}
 use mathlib.Core.Path.{_≡_, refl, sym, ap, subst, _∙_}
 use native.Mathlib.Omega.{arith}

@@ -1,3 +1,4 @@
+-- A low total has low parts, and a high column decides alone.
 use mathlib.Core.Path.{_≡_, sym, subst, _∙_}
 use lib.Dec.{leb}
 use Rattle.std.proofs.shelf.Tests.{not-false}

@@ -1,3 +1,4 @@
+-- A low column leaves the rest to decide, and a high one decides.
 use mathlib.Core.Bool.{true, false}
 use mathlib.Core.Path.{_≡_, sym, _∙_}
 use Prim.Native.Nat.{_<_}
