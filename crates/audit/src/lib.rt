@@ -1,5 +1,7 @@
 //! Reports with the law of runs on them: what is written counts every accepted request that has no
 //! follower, and nothing else.
+#![tactic(auto)]
+
 mod audit;
 mod checking;
 mod runner;

@@ -1,6 +1,8 @@
 //! The cells of a report's file: where each one ends, and what may stand in it.
 //!
 //! A file is walked over once, cell by cell. A cell is handed out as the part of the file that it is.
+#![tactic(auto)]
+
 mod cell;
 mod date;
 mod fault;

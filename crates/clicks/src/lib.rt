@@ -1,4 +1,6 @@
 //! The worked cases of the rules: proved of the definitions, and run through a ledger.
+#![tactic(auto)]
+
 ghost use Rattle.clicks.specs.Cases.{Cases};
 
 #[cfg(test)]

@@ -1,4 +1,6 @@
 //! The columns of a report: the calendar, and the schemes that give a request its column.
+#![tactic(auto)]
+
 mod calendar;
 mod month_scheme;
 mod period;

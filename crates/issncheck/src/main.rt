@@ -1,4 +1,6 @@
 //! Checks ISSNs, right and wrong ones, and prints for each what `read_issn` says of it.
+#![tactic(auto)]
+
 ghost use Rattle.std.specs.Prelude.{◌≡◌, ◌+◌, ◌<◌, [], ◌∷◌, if◌then◌else◌, nat_lt, slice_index, slice_set};
 
 use std::str::from_utf8;

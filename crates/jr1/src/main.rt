@@ -2,6 +2,8 @@
 //!
 //! The report goes to standard output, to the byte. The record of the run goes to standard error: each call with its
 //! answer, the tallies, and what the report said when it was read back.
+#![tactic(auto)]
+
 use anyhow::anyhow;
 use audit::{Audit, Written, run};
 use columns::MonthScheme;

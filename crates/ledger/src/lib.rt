@@ -1,4 +1,6 @@
 //! The ledger: it takes requests, drops those that a later one supersedes, and counts the others.
+#![tactic(auto)]
+
 mod answer;
 mod draw;
 mod notice;

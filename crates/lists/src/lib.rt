@@ -1,4 +1,6 @@
 //! Title lists: groups of tagged fields, each of which says a title, read into a lent table.
+#![tactic(auto)]
+
 mod draft;
 mod entry;
 mod fault;

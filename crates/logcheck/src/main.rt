@@ -1,4 +1,6 @@
 //! Draws logs that are written out below, byte by byte, and prints each item and what becomes of it.
+#![tactic(auto)]
+
 mod drawing;
 
 use anyhow::anyhow;

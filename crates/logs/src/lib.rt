@@ -1,4 +1,6 @@
 //! Tagged logs: the requests of a web server, and groups that cannot be read, as a source of items.
+#![tactic(auto)]
+
 mod cause;
 mod field;
 mod group;

@@ -1,4 +1,6 @@
 //! Reports read back: a file is accepted exactly where it is the text of some report, and that report is read out.
+#![tactic(auto)]
+
 mod answer;
 mod fill;
 mod judge;

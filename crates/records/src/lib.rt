@@ -1,4 +1,6 @@
 //! Requests, who made them, and where they come from.
+#![tactic(auto)]
+
 mod item;
 mod reader;
 mod request;

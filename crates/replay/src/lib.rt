@@ -1,4 +1,6 @@
 //! Whole runs of a ledger: opened, led through a row of steps, and settled.
+#![tactic(auto)]
+
 mod row;
 mod runner;
 mod steps;

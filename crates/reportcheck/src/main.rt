@@ -1,5 +1,7 @@
 //! Reads a report by month and one by year, damaged copies of them, and files of very many titles, and prints what each
 //! reading answers.
+#![tactic(auto)]
+
 mod samples;
 
 use anyhow::anyhow;

@@ -1,4 +1,6 @@
 //! Journal reports: a settled ledger's counts, laid out as the Code of Practice has them.
+#![tactic(auto)]
+
 mod check;
 mod counts;
 mod header;

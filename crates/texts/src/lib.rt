@@ -1,4 +1,6 @@
 //! Texts: what may stand in a cell of a report.
+#![tactic(auto)]
+
 ghost use Rattle.std.specs.Prelude.{◌≡◌};
 ghost use Rattle.texts.specs.Texts.{all_fit, fit, is_text};
 

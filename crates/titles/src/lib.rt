@@ -1,4 +1,6 @@
 //! The titles of a host: their ISSNs, and what a title list says of each.
+#![tactic(auto)]
+
 mod issn;
 #[cfg(test)]
 mod tests;

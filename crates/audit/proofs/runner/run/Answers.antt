@@ -10,9 +10,9 @@ use Rattle.audit.proofs.runner.run.Goals as goal
 
 pub returns : goal.returns
 returns g c =
-    let ran = c.in-ok-ledger.ensures in
+    let ran = c.in_ok-ledger.ensures in
     let reported = c.report-written.ensures in
-    let ledger = c.in-ok-ledger.ledger in
+    let ledger = c.in_ok-ledger.ledger in
     let layout = g.S.ColumnScheme.layout in
     let u = setup g.R.ReaderRule.relates g.S.ColumnScheme.place layout ledger.terms in
     let lines = (report_about (subject_of layout ledger c.run.new.cells c.args.titles.now c.args.header.now)).lines in

@@ -16,26 +16,26 @@ use Rattle.audit.proofs.Sheets.{sums_written}
 use Rattle.audit.proofs.Texts.{titles_found, total_found, written_front, written_length, written_read}
 use Rattle.audit.proofs.writing.report.Goals as goal
 
-pub slice-bounds-read-back-end : goal.slice-bounds-read-back-end
-slice-bounds-read-back-end g c =
+pub slice_bounds-read_back-end : goal.slice_bounds-read_back-end
+slice_bounds-read_back-end g c =
     let s = subject_of g.S.ColumnScheme.layout c.args.ledger.now c.args.cells.now c.args.titles.now c.args.header.now in
-    let is : Ok c.in-ok-length.length ≡ answer s (length c.args.out.now) = search rules in
-    omega (arith, (written_length s (length c.args.out.now) c.in-ok-length.length is).1, c.write.auto.out)
+    let is : Ok c.in_ok-length.length ≡ answer s (length c.args.out.now) = search rules in
+    omega (arith, (written_length s (length c.args.out.now) c.in_ok-length.length is).1, c.write.auto.out)
 
 pub unreachable-requires : goal.unreachable-requires
 unreachable-requires g c =
     let layout = g.S.ColumnScheme.layout in
     let ledger = c.args.ledger.now in
     let s = subject_of layout ledger c.args.cells.now c.args.titles.now c.args.header.now in
-    let n = c.in-ok-length.length in
+    let n = c.in_ok-length.length in
     let room = length c.args.out.now in
     let is : Ok n ≡ answer s room = search rules in
     let w = written_read s room n (g.met.S.ColumnScheme.sound ledger.terms.scheme) ledger.terms.some.0 ledger.terms.few.0 is in
     let zero : n - 0 ≡ n = omega arith in
-    let buffer : c.write.new.out ≡ text_about s ++ drop n c.args.out.now = c.in-ok-length.ensures.buffer in
+    let buffer : c.write.new.out ≡ text_about s ++ drop n c.args.out.now = c.in_ok-length.ensures.buffer in
     let front : take (n - 0) c.write.new.out ≡ text_about s = (λ i. take (zero i) (buffer i)) ∙ written_front s room n c.args.out.now is in
-    let got : c.read-back.result ≡ Ok (found_in w.0) =
-    c.read-back.ensures ∙ (λ i. map_both found_in Faulty (read_file (layout (c.scheme.ensures i)) (front i))) ∙ ap (map_both found_in Faulty) w.1 in
+    let got : c.read_back.result ≡ Ok (found_in w.0) =
+    c.read_back.ensures ∙ (λ i. map_both found_in Faulty (read_file (layout (c.scheme.ensures i)) (front i))) ∙ ap (map_both found_in Faulty) w.1 in
     no_ok c.in-Err.field-0 (found_in w.0) (sym c.in-Err.is ∙ got)
 
 pub returns : goal.returns
@@ -47,15 +47,15 @@ returns g c =
     let u = setup g.R.ReaderRule.relates g.S.ColumnScheme.place layout ledger.terms in
     let l = s.layout in
     let lines = (report_about s).lines in
-    let n = c.in-ok-length.length in
+    let n = c.in_ok-length.length in
     let room = length c.args.out.now in
     let is : Ok n ≡ answer s room = search rules in
     let w = written_read s room n (g.met.S.ColumnScheme.sound ledger.terms.scheme) ledger.terms.some.0 ledger.terms.few.0 is in
     let zero : n - 0 ≡ n = omega arith in
-    let buffer : c.write.new.out ≡ text_about s ++ drop n c.args.out.now = c.in-ok-length.ensures.buffer in
+    let buffer : c.write.new.out ≡ text_about s ++ drop n c.args.out.now = c.in_ok-length.ensures.buffer in
     let front : take (n - 0) c.write.new.out ≡ text_about s = (λ i. take (zero i) (buffer i)) ∙ written_front s room n c.args.out.now is in
-    let got : c.read-back.result ≡ Ok (found_in w.0) =
-    c.read-back.ensures ∙ (λ i. map_both found_in Faulty (read_file (layout (c.scheme.ensures i)) (front i))) ∙ ap (map_both found_in Faulty) w.1 in
+    let got : c.read_back.result ≡ Ok (found_in w.0) =
+    c.read_back.ensures ∙ (λ i. map_both found_in Faulty (read_file (layout (c.scheme.ensures i)) (front i))) ∙ ap (map_both found_in Faulty) w.1 in
     let found : c.in-Ok.found ≡ found_in w.0 = ok_same c.in-Ok.found (found_in w.0) (sym c.in-Ok.is ∙ got) in
     let sums = sums_written s room (Ok n) is refl in
     record {

@@ -8,7 +8,7 @@ pub returns-in-Some : goal.returns-in-Some
 returns-in-Some c =
     let bytes = c.args.bytes.now in
     let length = c.loop-length.length in
-    let ends = sym (c.in-Some.ensures ∙ ap end_here c.split-at.ensures.back) in
+    let ends = sym (c.in-Some.ensures ∙ ap end_here c.split_at.ensures.back) in
     record {
       cut = end_found bytes length c.loop-length.invariant.0 c.in-Some.last ends;
       within = end_fits bytes length c.loop-length.invariant.0 c.in-Some.last ends c.loop-length.invariant.1;
@@ -16,7 +16,7 @@ returns-in-Some c =
 
 pub loop-length-preserved : goal.loop-length-preserved
 loop-length-preserved c =
-    let ends = sym (c.in-default.ensures ∙ ap end_here c.split-at.ensures.back) in
+    let ends = sym (c.in_default.ensures ∙ ap end_here c.split_at.ensures.back) in
     (end_later c.args.bytes.now c.loop-length.length c.loop-length.invariant.0 (omega arith) ends, omega arith)
 
 pub returns : goal.returns

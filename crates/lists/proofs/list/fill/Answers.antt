@@ -8,17 +8,17 @@ use Rattle.lists.proofs.list.fill.Goals as goal
 pub bounds-table-count : goal.bounds-table-count
 bounds-table-count c =
     let row = c.loop-group in
-    filling_room (read_list c.args.list.now) (left row.groups) (frame_of c.in-Some.group) (left c.next.new.self) row.count c.args.table.now row.table (entry_of c.in-ok-table.field-0) row.invariant c.in-Some.ensures.came c.in-ok-table.ensures
+    filling_room (read_list c.args.list.now) (left row.groups) (frame_of c.in-Some.group) (left c.next.new.self) row.count c.args.table.now row.table (entry_of c.in_ok-table.field-0) row.invariant c.in-Some.ensures.came c.in_ok-table.ensures
 
 pub loop-group-preserved : goal.loop-group-preserved
 loop-group-preserved c =
     let row = c.loop-group in
-    filling_more (read_list c.args.list.now) (left row.groups) (frame_of c.in-Some.group) (left c.next.new.self) row.count c.args.table.now row.table c.in-ok-table.field-0 row.invariant c.in-Some.ensures.came c.in-ok-table.ensures
+    filling_more (read_list c.args.list.now) (left row.groups) (frame_of c.in-Some.group) (left c.next.new.self) row.count c.args.table.now row.table c.in_ok-table.field-0 row.invariant c.in-Some.ensures.came c.in_ok-table.ensures
 
 pub returns : goal.returns
 returns c =
     let row = c.loop-group in
     record {
       right = refl;
-      filled = filling_ends (read_list c.args.list.now) (left row.groups) row.count c.args.table.now row.table row.invariant c.in-default.ensures.came.0;
+      filled = filling_ends (read_list c.args.list.now) (left row.groups) row.count c.args.table.now row.table row.invariant c.in_default.ensures.came.0;
     }

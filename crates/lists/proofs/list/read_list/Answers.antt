@@ -14,11 +14,11 @@ pub returns : goal.returns
 returns c =
     let list = c.args.list.now in
     let old = c.args.table.now in
-    let new = c.read-into.new.table in
-    let r = c.read-into.result in
-    let read = c.read-into.ensures.read in
-    let table = c.read-into.ensures.table in
-    let bytes = All-from_get_or (λ b. b < 256) list 0 (λ i _. omega (arith, c.type-inv.list i)) in
+    let new = c.read_into.new.table in
+    let r = c.read_into.result in
+    let read = c.read_into.ensures.read in
+    let table = c.read_into.ensures.table in
+    let bytes = All-from_get_or (λ b. b < 256) list 0 (λ i _. omega (arith, c.type_inv.list i)) in
     let exact : (es : List Entry) → (read_list list ≡ Ok es) ↔ SpelledList list es = λ es. (spells_if_said list es bytes, spelled_list list es) in
     record {
       read = read;

@@ -14,16 +14,16 @@ pub loop-column-preserved : goal.loop-column-preserved
 loop-column-preserved c =
     let e : length c.args.sums.now.columns ≡ 12 = search rules in
     let z = sum_by_more (λ x. x) c.args.sums.now.columns c.loop-column.column 0 (omega arith) in (
-      column_right c.args.figures.now c.args.ytd c.args.columns c.args.sums.now (omega arith) c.requires.figures c.loop-column.column c.loop-column-test.true c.loop-column.invariant.0 c.in-ok-check-sum.ensures,
+      column_right c.args.figures.now c.args.ytd c.args.columns c.args.sums.now (omega arith) c.requires.figures c.loop-column.column c.loop-column-test.true c.loop-column.invariant.0 c.in_ok-check_sum.ensures,
       omega (arith, z, c.loop-column.invariant.1),
       omega (arith, c.requires.low.columns c.loop-column.column, c.loop-column.invariant.2),
     )
 
-pub returns-in-err-check-sum : goal.returns-in-err-check-sum
-returns-in-err-check-sum c =
+pub returns-in_err-check_sum : goal.returns-in_err-check_sum
+returns-in_err-check_sum c =
     let e : length c.args.sums.now.columns ≡ 12 = search rules in
-    let p = err_from_is_err_and c.from-residual.result c.from-residual.ensures.1 in
-    rw (p.1, p.2) (column_wrong c.args.figures.now c.args.ytd c.args.columns c.args.sums.now (omega arith) c.requires.figures c.loop-column.column c.loop-column-test.true c.loop-column.invariant.0 _ c.in-err-check-sum.ensures)
+    let p = err_from_is_err_and c.from_residual.result c.from_residual.ensures.1 in
+    rw (p.1, p.2) (column_wrong c.args.figures.now c.args.ytd c.args.columns c.args.sums.now (omega arith) c.requires.figures c.loop-column.column c.loop-column-test.true c.loop-column.invariant.0 _ c.in_err-check_sum.ensures)
 
 pub returns-then-not-ytd : goal.returns-then-not-ytd
 returns-then-not-ytd c =
@@ -55,24 +55,24 @@ module _ (figures : List ℕ) (ytd : Bool) (n : ℕ) (s : Sums) (i total : ℕ) 
     checked_pdf : Ok tt ≡ checked_sum (get_or figures (n + 1) 0) s.html (7 + n) → (r : Result (Unit {0}) LineFault) → r ≡ checked_sum (get_or figures (n + 2) 0) s.pdf (8 + n) → r ≡ sums_against 6 figures (shown_numbers ytd (sums_of n s))
     checked_pdf html r e = year_answer figures ytd n s r on (pdf_checked figures n s full three (html_right figures n s full three at_html html) r e)
 
-pub returns-in-err-check-sum-2 : goal.returns-in-err-check-sum-2
-returns-in-err-check-sum-2 c =
+pub returns-in_err-check_sum-2 : goal.returns-in_err-check_sum-2
+returns-in_err-check_sum-2 c =
     let l : length c.args.sums.now.columns ≡ 12 = search rules in
     let on : c.args.ytd ≡ true = search rules in
-    let p = err_from_is_err_and c.from-residual-in-err-check-sum-2.result c.from-residual-in-err-check-sum-2.ensures.1 in
+    let p = err_from_is_err_and c.from_residual-in_err-check_sum-2.result c.from_residual-in_err-check_sum-2.ensures.1 in
     rw (p.1, p.2)
-    (wrong_total c.args.figures.now c.args.ytd c.args.columns c.args.sums.now c.loop-column.column c.loop-column.total (omega arith) c.requires.figures on (omega arith) c.loop-column.invariant.0 c.loop-column.invariant.1 _ c.in-err-check-sum-2.ensures)
+    (wrong_total c.args.figures.now c.args.ytd c.args.columns c.args.sums.now c.loop-column.column c.loop-column.total (omega arith) c.requires.figures on (omega arith) c.loop-column.invariant.0 c.loop-column.invariant.1 _ c.in_err-check_sum-2.ensures)
 
-pub returns-in-err-check-sum-3 : goal.returns-in-err-check-sum-3
-returns-in-err-check-sum-3 c =
+pub returns-in_err-check_sum-3 : goal.returns-in_err-check_sum-3
+returns-in_err-check_sum-3 c =
     let l : length c.args.sums.now.columns ≡ 12 = search rules in
     let on : c.args.ytd ≡ true = search rules in
-    let p = err_from_is_err_and c.from-residual-in-err-check-sum-3.result c.from-residual-in-err-check-sum-3.ensures.1 in
+    let p = err_from_is_err_and c.from_residual-in_err-check_sum-3.result c.from_residual-in_err-check_sum-3.ensures.1 in
     rw (p.1, p.2)
-    (wrong_html c.args.figures.now c.args.ytd c.args.columns c.args.sums.now c.loop-column.column c.loop-column.total (omega arith) c.requires.figures on (omega arith) c.loop-column.invariant.0 c.loop-column.invariant.1 c.in-ok-check-sum-2.ensures _ c.in-err-check-sum-3.ensures)
+    (wrong_html c.args.figures.now c.args.ytd c.args.columns c.args.sums.now c.loop-column.column c.loop-column.total (omega arith) c.requires.figures on (omega arith) c.loop-column.invariant.0 c.loop-column.invariant.1 c.in_ok-check_sum-2.ensures _ c.in_err-check_sum-3.ensures)
 
 pub returns : goal.returns
 returns c =
     let l : length c.args.sums.now.columns ≡ 12 = search rules in
     let on : c.args.ytd ≡ true = search rules in
-    checked_pdf c.args.figures.now c.args.ytd c.args.columns c.args.sums.now c.loop-column.column c.loop-column.total (omega arith) c.requires.figures on (omega arith) c.loop-column.invariant.0 c.loop-column.invariant.1 c.in-ok-check-sum-2.ensures c.in-ok-check-sum-3.ensures _ c.check-sum-4.ensures
+    checked_pdf c.args.figures.now c.args.ytd c.args.columns c.args.sums.now c.loop-column.column c.loop-column.total (omega arith) c.requires.figures on (omega arith) c.loop-column.invariant.0 c.loop-column.invariant.1 c.in_ok-check_sum-2.ensures c.in_ok-check_sum-3.ensures _ c.check_sum-4.ensures

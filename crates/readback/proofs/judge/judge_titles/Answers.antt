@@ -18,17 +18,17 @@ loop-judged-init g c =
       (λ i. over tallied (512 - z i) l c.args.platform.now (place_of c.args.cells.now) (t i)),
     )
 
-pub read-title-requires : goal.read-title-requires
-read-title-requires g c = omega (arith, (g.met.S.ColumnScheme.sound c.args.scheme.now).few, c.requires)
+pub read_title-requires : goal.read_title-requires
+read_title-requires g c = omega (arith, (g.met.S.ColumnScheme.sound c.args.scheme.now).few, c.requires)
 
-pub returns-in-err-line : goal.returns-in-err-line
-returns-in-err-line g c =
+pub returns-in_err-line : goal.returns-in_err-line
+returns-in_err-line g c =
     let l = g.S.ColumnScheme.layout c.args.scheme.now in
     let n : column_count l ≡ length c.loop-judged.row = sym (c.loop-judged.auto.row ∙ c.requires) in
     let h : c.loop-judged.judged.titles < 512 = omega (arith, c.loop-judged.invariant.0) in
-    let p = err_from_is_err_and c.from-residual.result c.from-residual.ensures.1 in
-    let stop = titles_stop tallied l c.args.platform.now c.loop-judged.judged.titles h (place_of c.loop-judged.cells) (tally_of (length c.args.row.now) c.loop-judged.judged) c.in-err-line.field-0.0
-    ((λ i. row_at (sym c.has-ytd-ytd.ensures i) (n i) c.args.platform.now (place_of c.loop-judged.cells)) ∙ sym c.in-err-line.ensures) in
+    let p = err_from_is_err_and c.from_residual.result c.from_residual.ensures.1 in
+    let stop = titles_stop tallied l c.args.platform.now c.loop-judged.judged.titles h (place_of c.loop-judged.cells) (tally_of (length c.args.row.now) c.loop-judged.judged) c.in_err-line.field-0.0
+    ((λ i. row_at (sym c.has_ytd-ytd.ensures i) (n i) c.args.platform.now (place_of c.loop-judged.cells)) ∙ sym c.in_err-line.ensures) in
     record {
       tally = rw (p.1, p.2) (sym stop ∙ c.loop-judged.invariant.2);
       low = rw p.1 tt;
@@ -38,7 +38,7 @@ pub note-requires : goal.note-requires
 note-requires g c =
     let few = (g.met.S.ColumnScheme.sound c.args.scheme.now).few in
     record {
-      few = omega (arith, few, c.requires, c.read-title.auto.row);
+      few = omega (arith, few, c.requires, c.read_title.auto.row);
       titles = omega (arith, c.loop-judged.invariant.0);
       low = record {
         columns = λ i. omega (arith, c.loop-judged.invariant.0, c.loop-judged.invariant.1.columns i);
@@ -47,22 +47,22 @@ note-requires g c =
       };
     }
 
-pub returns-then-is-done : goal.returns-then-is-done
-returns-then-is-done g c =
+pub returns-then-is_done : goal.returns-then-is_done
+returns-then-is_done g c =
     let l = g.S.ColumnScheme.layout c.args.scheme.now in
     let n : column_count l ≡ length c.loop-judged.row = sym (c.loop-judged.auto.row ∙ c.requires) in
     let h : c.loop-judged.judged.titles < 512 = omega (arith, c.loop-judged.invariant.0) in
-    let m : length c.read-title.new.row ≡ length c.args.row.now = c.read-title.auto.row ∙ c.loop-judged.auto.row in
-    let row = row_with c.read-title.new.row c.in-ok-line.line in
-    let z : row_at l.ytd (column_count l) c.args.platform.now (place_of c.loop-judged.cells) ≡ Ok (row, place_of c.read-title.new.cells) =
-    (λ i. row_at (sym c.has-ytd-ytd.ensures i) (n i) c.args.platform.now (place_of c.loop-judged.cells)) ∙ sym c.in-ok-line.ensures in
+    let m : length c.read_title.new.row ≡ length c.args.row.now = c.read_title.auto.row ∙ c.loop-judged.auto.row in
+    let row = row_with c.read_title.new.row c.in_ok-line.line in
+    let z : row_at l.ytd (column_count l) c.args.platform.now (place_of c.loop-judged.cells) ≡ Ok (row, place_of c.read_title.new.cells) =
+    (λ i. row_at (sym c.has_ytd-ytd.ensures i) (n i) c.args.platform.now (place_of c.loop-judged.cells)) ∙ sym c.in_ok-line.ensures in
     let t : tally_of (length c.args.row.now) c.note.new.self ≡ tallied (tally_of (length c.args.row.now) c.loop-judged.judged) row =
     subst (λ (k : ℕ). tally_of k c.note.new.self ≡ tallied (tally_of k c.loop-judged.judged) row) m c.note.ensures.tally in
     let low = c.note.ensures.low (c.loop-judged.judged.titles * 4294967296) c.loop-judged.invariant.1 in
     record {
       tally =
           ap (λ (x : Tally). Ok x) t
-          ∙ sym (titles_last tallied l c.args.platform.now c.loop-judged.judged.titles h (place_of c.loop-judged.cells) (tally_of (length c.args.row.now) c.loop-judged.judged) row (place_of c.read-title.new.cells) z (sym c.if-is-done.ensures))
+          ∙ sym (titles_last tallied l c.args.platform.now c.loop-judged.judged.titles h (place_of c.loop-judged.cells) (tally_of (length c.args.row.now) c.loop-judged.judged) row (place_of c.read_title.new.cells) z (sym c.if-is_done.ensures))
           ∙ c.loop-judged.invariant.2;
       low = record { columns = λ i. omega (arith, low.columns i); html = omega (arith, low.html); pdf = omega (arith, low.pdf) };
     }
@@ -72,17 +72,17 @@ loop-judged-preserved g c =
     let l = g.S.ColumnScheme.layout c.args.scheme.now in
     let n : column_count l ≡ length c.loop-judged.row = sym (c.loop-judged.auto.row ∙ c.requires) in
     let h : c.loop-judged.judged.titles < 512 = omega (arith, c.loop-judged.invariant.0) in
-    let m : length c.read-title.new.row ≡ length c.args.row.now = c.read-title.auto.row ∙ c.loop-judged.auto.row in
-    let row = row_with c.read-title.new.row c.in-ok-line.line in
-    let z : row_at l.ytd (column_count l) c.args.platform.now (place_of c.loop-judged.cells) ≡ Ok (row, place_of c.read-title.new.cells) =
-    (λ i. row_at (sym c.has-ytd-ytd.ensures i) (n i) c.args.platform.now (place_of c.loop-judged.cells)) ∙ sym c.in-ok-line.ensures in
+    let m : length c.read_title.new.row ≡ length c.args.row.now = c.read_title.auto.row ∙ c.loop-judged.auto.row in
+    let row = row_with c.read_title.new.row c.in_ok-line.line in
+    let z : row_at l.ytd (column_count l) c.args.platform.now (place_of c.loop-judged.cells) ≡ Ok (row, place_of c.read_title.new.cells) =
+    (λ i. row_at (sym c.has_ytd-ytd.ensures i) (n i) c.args.platform.now (place_of c.loop-judged.cells)) ∙ sym c.in_ok-line.ensures in
     let t : tally_of (length c.args.row.now) c.note.new.self ≡ tallied (tally_of (length c.args.row.now) c.loop-judged.judged) row =
     subst (λ (k : ℕ). tally_of k c.note.new.self ≡ tallied (tally_of k c.loop-judged.judged) row) m c.note.ensures.tally in
     let more : c.note.new.self.titles ≡ c.loop-judged.judged.titles + 1 = ap (λ (x : Tally). x.titles) t in
     let low = c.note.ensures.low (c.loop-judged.judged.titles * 4294967296) c.loop-judged.invariant.1 in (
       omega (arith, more, h),
       record { columns = λ i. omega (arith, more, low.columns i); html = omega (arith, more, low.html); pdf = omega (arith, more, low.pdf) },
-      (λ i. over tallied (512 - more i) l c.args.platform.now (place_of c.read-title.new.cells) (t i))
-          ∙ sym (titles_more tallied l c.args.platform.now c.loop-judged.judged.titles h (place_of c.loop-judged.cells) (tally_of (length c.args.row.now) c.loop-judged.judged) row (place_of c.read-title.new.cells) z (sym c.if-is-done.ensures))
+      (λ i. over tallied (512 - more i) l c.args.platform.now (place_of c.read_title.new.cells) (t i))
+          ∙ sym (titles_more tallied l c.args.platform.now c.loop-judged.judged.titles h (place_of c.loop-judged.cells) (tally_of (length c.args.row.now) c.loop-judged.judged) row (place_of c.read_title.new.cells) z (sym c.if-is_done.ensures))
           ∙ c.loop-judged.invariant.2,
     )

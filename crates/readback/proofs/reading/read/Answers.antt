@@ -8,51 +8,51 @@ use Rattle.readback.proofs.Judging.{judged_is}
 use Rattle.readback.proofs.Telling.{faulty_number, given_by, told_by}
 use Rattle.readback.proofs.reading.read.Goals as goal
 
-pub returns-in-err-judge-file : goal.returns-in-err-judge-file
-returns-in-err-judge-file g c =
+pub returns-in_err-judge_file : goal.returns-in_err-judge_file
+returns-in_err-judge_file g c =
     let l = g.S.ColumnScheme.layout c.args.scheme.now in
     let t = new_tables c.args.titles.now c.args.numbers.now c.args.ytd.now in
     let sound = g.met.S.ColumnScheme.sound c.args.scheme.now in
     let room : roomy l t ≡ true = search rules in
-    let p = err_from_is_err_and c.from-residual.result c.from-residual.ensures.1 in
-    let a = answer_refused l t c.args.file.now room c.in-err-judge-file.field-0.0 (judged_is l c.args.file.now ∙ sym c.in-err-judge-file.ensures) in
+    let p = err_from_is_err_and c.from_residual.result c.from_residual.ensures.1 in
+    let a = answer_refused l t c.args.file.now room c.in_err-judge_file.field-0.0 (judged_is l c.args.file.now ∙ sym c.in_err-judge_file.ensures) in
     record {
       answer = rw (p.1, p.2) (sym a.0);
       numbered = rw (p.1, p.2) (faulty_number l t room);
       tables = sym a.1;
-      given = rw p.1 (given_by l sound t c.args.file.now (Err (Faulty c.in-err-judge-file.field-0.0)) (sym a.0));
-      told = rw (p.1, p.2) (told_by l sound t c.args.file.now t (Err (Faulty c.in-err-judge-file.field-0.0)) (sym a.0) (sym a.1));
+      given = rw p.1 (given_by l sound t c.args.file.now (Err (Faulty c.in_err-judge_file.field-0.0)) (sym a.0));
+      told = rw (p.1, p.2) (told_by l sound t c.args.file.now t (Err (Faulty c.in_err-judge_file.field-0.0)) (sym a.0) (sym a.1));
     }
 
-pub returns-in-err-out : goal.returns-in-err-out
-returns-in-err-out g c =
+pub returns-in_err-out : goal.returns-in_err-out
+returns-in_err-out g c =
     let l = g.S.ColumnScheme.layout c.args.scheme.now in
     let t = new_tables c.args.titles.now c.args.numbers.now c.args.ytd.now in
-    let after = new_tables c.fill-file.new.titles c.fill-file.new.numbers c.fill-file.new.ytd in
+    let after = new_tables c.fill_file.new.titles c.fill_file.new.numbers c.fill_file.new.ytd in
     let sound = g.met.S.ColumnScheme.sound c.args.scheme.now in
     let room : roomy l t ≡ true = search rules in
-    let p = err_from_is_err_and c.from-residual-in-err-out.result c.from-residual-in-err-out.ensures.1 in
-    let a = answer_granted l t c.args.file.now room (judged_is l c.args.file.now ∙ sym c.in-ok-judge-file.ensures) after (Err c.in-err-out.field-0.0) c.in-err-out.ensures in
+    let p = err_from_is_err_and c.from_residual-in_err-out.result c.from_residual-in_err-out.ensures.1 in
+    let a = answer_granted l t c.args.file.now room (judged_is l c.args.file.now ∙ sym c.in_ok-judge_file.ensures) after (Err c.in_err-out.field-0.0) c.in_err-out.ensures in
     record {
       answer = rw (p.1, p.2) a.0;
       numbered = rw (p.1, p.2) (faulty_number l t room);
       tables = a.1;
-      given = rw p.1 (given_by l sound t c.args.file.now (Err (Faulty c.in-err-out.field-0.0)) a.0);
-      told = rw (p.1, p.2) (told_by l sound t c.args.file.now after (Err (Faulty c.in-err-out.field-0.0)) a.0 a.1);
+      given = rw p.1 (given_by l sound t c.args.file.now (Err (Faulty c.in_err-out.field-0.0)) a.0);
+      told = rw (p.1, p.2) (told_by l sound t c.args.file.now after (Err (Faulty c.in_err-out.field-0.0)) a.0 a.1);
     }
 
 pub returns : goal.returns
 returns g c =
     let l = g.S.ColumnScheme.layout c.args.scheme.now in
     let t = new_tables c.args.titles.now c.args.numbers.now c.args.ytd.now in
-    let after = new_tables c.fill-file.new.titles c.fill-file.new.numbers c.fill-file.new.ytd in
+    let after = new_tables c.fill_file.new.titles c.fill_file.new.numbers c.fill_file.new.ytd in
     let sound = g.met.S.ColumnScheme.sound c.args.scheme.now in
     let room : roomy l t ≡ true = search rules in
-    let a = answer_granted l t c.args.file.now room (judged_is l c.args.file.now ∙ sym c.in-ok-judge-file.ensures) after (Ok c.in-ok-out.out) c.in-ok-out.ensures in
+    let a = answer_granted l t c.args.file.now room (judged_is l c.args.file.now ∙ sym c.in_ok-judge_file.ensures) after (Ok c.in_ok-out.out) c.in_ok-out.ensures in
     record {
       answer = a.0;
       numbered = tt;
       tables = a.1;
-      given = given_by l sound t c.args.file.now (Ok c.in-ok-out.out) a.0;
-      told = told_by l sound t c.args.file.now after (Ok (summary_of c.in-ok-out.out)) a.0 a.1;
+      given = given_by l sound t c.args.file.now (Ok c.in_ok-out.out) a.0;
+      told = told_by l sound t c.args.file.now after (Ok (summary_of c.in_ok-out.out)) a.0 a.1;
     }

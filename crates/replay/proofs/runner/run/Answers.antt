@@ -13,7 +13,7 @@ pub unreachable-requires : goal.unreachable-requires
 unreachable-requires g c =
     let o = c.lead-ledger.result in
     let u = setup g.R.ReaderRule.relates g.S.ColumnScheme.place g.S.ColumnScheme.layout o.terms in
-    let stood = c.lead-ledger.ensures.law [] c.in-ok-ledger.ensures.begins.6 in
+    let stood = c.lead-ledger.ensures.law [] c.in_ok-ledger.ensures.begins.6 in
     let few : o.tallies.presented < 4294967296 = let l = o.limited in let m = o.terms.few in omega arith in
     let fit = stands_fits u (g.met.S.ColumnScheme.below o.terms.scheme) (stood.0 ++ []) (books o c.lead-ledger.new.waiting c.lead-ledger.new.cells) stood.2 few refl in
     let clash : refused (number c.in-Err.field-0.refusal) ≡ granted = c.in-Err.ensures.answer ∙ ap judge_tables fit in
@@ -22,7 +22,7 @@ unreachable-requires g c =
 pub returns : goal.returns
 returns g c =
     let o = c.lead-ledger.result in
-    let begun = c.in-ok-ledger.ensures in
+    let begun = c.in_ok-ledger.ensures in
     let led = c.lead-ledger.ensures in
     let ended = c.in-Ok.ensures in
     let same = ended.holds.0 ∙ led.terms in

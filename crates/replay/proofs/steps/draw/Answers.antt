@@ -11,7 +11,7 @@ returns-else-lent g c =
     let u = setup g.R.ReaderRule.relates g.S.ColumnScheme.place g.S.ColumnScheme.layout o.terms in
     let un = unlent u (books o [] []) o.terms.some.2 refl in
     let xs = g.Src.Source.items c.args.source.now in
-    let t = undrawn c.draw-else-lent.result c.reply-to-draw-else-lent.result c.args.lent _ c.if-lent.false un c.draw-else-lent.ensures.answer c.reply-to-draw-else-lent.ensures in
+    let t = undrawn c.draw-else-lent.result c.reply_to_draw-else-lent.result c.args.lent _ c.if-lent.false un c.draw-else-lent.ensures.answer c.reply_to_draw-else-lent.ensures in
     record {
       terms = c.draw-else-lent.ensures.terms;
       law = λ p s. (

@@ -14,7 +14,7 @@ returns-else-lent g c =
       terms = c.notice-else-lent.ensures.terms;
       law = λ p s. (
         a,
-        c.reply-to-call-else-lent.ensures,
+        c.reply_to_call-else-lent.ensures,
         flagged (λ z. noticed z c.args.time a) c.args.lent false c.if-lent.false
             ((c.notice-else-lent.ensures.law p).1 c.args.waiting.now c.args.cells.now (unlent u (books o [] []) o.terms.some.2 refl) s),
       );

@@ -14,7 +14,7 @@ returns-else-lent g c =
       terms = c.offer-else-lent.ensures.terms;
       law = λ p s. (
         a,
-        c.reply-to-item-else-lent.ensures,
+        c.reply_to_item-else-lent.ensures,
         flagged (λ z. offered z c.args.item.now a) c.args.lent false c.if-lent.false
             ((c.offer-else-lent.ensures.law p).1 c.args.waiting.now c.args.cells.now (unlent u (books o [] []) o.terms.some.2 refl) s),
       );

@@ -5,7 +5,7 @@ use Rattle.reports.proofs.check.check_titles.Goals as goal
 
 pub loop-title-preserved : goal.loop-title-preserved
 loop-title-preserved c =
-    titles_more c.args.titles.now c.loop-title.title _ (omega arith) _ c.in-default.ensures.judged ∙ c.loop-title.invariant
+    titles_more c.args.titles.now c.loop-title.title _ (omega arith) _ c.in_default.ensures.judged ∙ c.loop-title.invariant
 
 pub returns-in-Err : goal.returns-in-Err
 returns-in-Err c =

@@ -6,15 +6,15 @@ use Rattle.reports.proofs.Places.{inside}
 use Rattle.reports.proofs.Sums.{sum_by_counting_more}
 use Rattle.reports.proofs.counts.column_formats.Goals as goal
 
-pub title-formats-formats-requires : goal.title-formats-formats-requires
-title-formats-formats-requires c =
+pub title_formats-formats-requires : goal.title_formats-formats-requires
+title_formats-formats-requires c =
     let i = inside c.loop-title.title (length c.args.titles.now) c.args.columns c.args.column (omega arith) (omega arith) in
     omega (arith, i)
 
 pub loop-title-preserved : goal.loop-title-preserved
 loop-title-preserved c =
     let sum = c.loop-title.invariant.0 in
-    let one = c.title-formats-formats.ensures.formats in
+    let one = c.title_formats-formats.ensures.formats in
     let html = sum_by_counting_more (λ t. html_at c.args.cells.now c.args.columns t c.args.column) c.loop-title.title in
     let pdf = sum_by_counting_more (λ t. pdf_at c.args.cells.now c.args.columns t c.args.column) c.loop-title.title in (
       (λ i. record { html = (sum i).html + (one i).html; pdf = (sum i).pdf + (one i).pdf }) ∙ sym (λ i. record { html = html i; pdf = pdf i }),

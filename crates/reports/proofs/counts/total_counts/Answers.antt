@@ -11,7 +11,7 @@ loop-column-preserved c =
     let added = c.add.ensures.added in
     let html = ap (λ (d : Counts). d.html) added in
     let pdf = ap (λ (d : Counts). d.pdf) added in (
-      usage_more (html_sum c.args.cells.now c.args.columns (length c.args.titles.now)) (pdf_sum c.args.cells.now c.args.columns (length c.args.titles.now)) c.loop-column.column _ _ _ added c.column-formats.ensures.formats (omega (arith, c.add.ensures.full)) c.loop-column.invariant.0,
+      usage_more (html_sum c.args.cells.now c.args.columns (length c.args.titles.now)) (pdf_sum c.args.cells.now c.args.columns (length c.args.titles.now)) c.loop-column.column _ _ _ added c.column_formats.ensures.formats (omega (arith, c.add.ensures.full)) c.loop-column.invariant.0,
       omega (arith, c.loop-column.invariant.1),
       omega (arith, c.loop-column.invariant.2),
     )

@@ -12,7 +12,7 @@ loop-column-init g c = none c.args.out.now c.args.at c.ranges.at.fits
 pub loop-column-preserved : goal.loop-column-preserved
 loop-column-preserved g c =
     row_more next_cell (g.S.ColumnScheme.layout c.args.scheme.now).headings c.loop-column.column _ _ [] (omega arith) _ _ _ _ c.loop-column.invariant
-    (subst (λ text. Put c.loop-column.out c.loop-column.end (next_cell text) c.put-text-cell-end.new.out c.put-text-cell-end.result) c.heading-or-blank.ensures c.put-text-cell-end.ensures)
+    (subst (λ text. Put c.loop-column.out c.loop-column.end (next_cell text) c.put_text_cell-end.new.out c.put_text_cell-end.result) c.heading_or_blank.ensures c.put_text_cell-end.ensures)
 
 pub returns : goal.returns
 returns g c =

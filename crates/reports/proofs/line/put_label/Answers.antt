@@ -4,7 +4,7 @@ use Rattle.reports.proofs.line.put_label.Goals as goal
 
 pub returns : goal.returns
 returns c =
-    next _ _ _ _ _ _ _ _ c.put-bytes-at.ensures
-    (next _ _ _ _ _ _ _ _ c.put-text-cell-at.ensures
-    (next _ _ _ _ _ _ _ _ c.put-text-cell-at-2.ensures
-    (next _ _ _ _ _ _ _ _ c.put-text-cell-at-3.ensures (last _ _ _ _ _ c.put-text-cell.ensures))))
+    next _ _ _ _ _ _ _ _ c.put_bytes-at.ensures
+    (next _ _ _ _ _ _ _ _ c.put_text_cell-at.ensures
+    (next _ _ _ _ _ _ _ _ c.put_text_cell-at-2.ensures
+    (next _ _ _ _ _ _ _ _ c.put_text_cell-at-3.ensures (last _ _ _ _ _ c.put_text_cell.ensures))))

@@ -19,7 +19,7 @@ loop-column-preserved c =
     let long = length-map xs decimal in
     let shown : decimal (get_or c.args.counts.now.numbers c.loop-column.column 0) ≡ get_or (map decimal xs) c.loop-column.column [] = sym (get_or-map decimal xs c.loop-column.column 0 [] (omega arith) ∙ ap decimal (get_or-take c.args.columns c.args.counts.now.numbers c.loop-column.column 0 (omega arith))) in
     row_more next_cell (map decimal xs) c.loop-column.column _ _ [] (omega arith) _ _ _ _ c.loop-column.invariant
-    (subst (λ text. Put c.loop-column.out c.loop-column.end (next_cell text) c.put-number-cell-end.new.out c.put-number-cell-end.result) shown c.put-number-cell-end.ensures)
+    (subst (λ text. Put c.loop-column.out c.loop-column.end (next_cell text) c.put_number_cell-end.new.out c.put_number_cell-end.result) shown c.put_number_cell-end.ensures)
 
 pub returns : goal.returns
 returns c =

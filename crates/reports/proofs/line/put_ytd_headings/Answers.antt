@@ -12,5 +12,5 @@ returns-then-not-ytd c =
 
 pub returns : goal.returns
 returns c =
-    subst (λ b. Put c.args.out.now c.args.at (flat_map next_cell (ytd_headings b)) c.put-text-cell.new.out c.put-text-cell.result) (sym c.if-not-ytd.false)
-    (next _ _ _ _ _ _ _ _ c.put-text-cell-at.ensures (next _ _ _ _ _ _ _ _ c.put-text-cell-at-2.ensures (last _ _ _ _ _ c.put-text-cell.ensures)))
+    subst (λ b. Put c.args.out.now c.args.at (flat_map next_cell (ytd_headings b)) c.put_text_cell.new.out c.put_text_cell.result) (sym c.if-not-ytd.false)
+    (next _ _ _ _ _ _ _ _ c.put_text_cell-at.ensures (next _ _ _ _ _ _ _ _ c.put_text_cell-at-2.ensures (last _ _ _ _ _ c.put_text_cell.ensures)))

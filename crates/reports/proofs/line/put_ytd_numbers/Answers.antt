@@ -17,6 +17,6 @@ returns-then-not-shape c =
 pub returns : goal.returns
 returns c =
     let u = usage_of c.args.shape.columns c.args.counts.now in
-    subst (λ b. Put c.args.out.now c.args.at (flat_map next_cell (map decimal (ytd_numbers b u))) c.put-number-cell.new.out c.put-number-cell.result) (sym (not-false c.args.shape.ytd c.if-not-shape.false))
-    (next _ _ _ _ _ _ _ _ (subst (λ n. Put c.args.out.now c.args.at (next_cell (decimal n)) c.put-number-cell-at.new.out c.put-number-cell-at.result) (c.total.ensures ∙ c.requires.total) c.put-number-cell-at.ensures)
-    (next _ _ _ _ _ _ _ _ c.put-number-cell-at-2.ensures (last _ _ _ _ _ c.put-number-cell.ensures)))
+    subst (λ b. Put c.args.out.now c.args.at (flat_map next_cell (map decimal (ytd_numbers b u))) c.put_number_cell.new.out c.put_number_cell.result) (sym (not-false c.args.shape.ytd c.if-not-shape.false))
+    (next _ _ _ _ _ _ _ _ (subst (λ n. Put c.args.out.now c.args.at (next_cell (decimal n)) c.put_number_cell-at.new.out c.put_number_cell-at.result) (c.total.ensures ∙ c.requires.total) c.put_number_cell-at.ensures)
+    (next _ _ _ _ _ _ _ _ c.put_number_cell-at-2.ensures (last _ _ _ _ _ c.put_number_cell.ensures)))

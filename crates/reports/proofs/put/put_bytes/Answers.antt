@@ -10,9 +10,9 @@ returns-then-end-out c =
     let old = c.args.out.now in
     let bytes = c.args.bytes.now in
     record {
-      ends = c.saturating-add-end.ensures;
+      ends = c.saturating_add-end.ensures;
       holds = λ small room.
-          let end_is : c.saturating-add-end.result ≡ at + length bytes = c.saturating-add-end.ensures ∙ min-eq_left (omega arith) in
-          let e : c.saturating-add-end.result - at ≡ length bytes = omega arith in
-          (λ i. take at old ++ (c.copy-from-slice.ensures.after i ++ drop (e i) (drop at old))) ∙ ap (λ d. take at old ++ (bytes ++ d)) (drop-drop (length bytes) at old);
+          let end_is : c.saturating_add-end.result ≡ at + length bytes = c.saturating_add-end.ensures ∙ min-eq_left (omega arith) in
+          let e : c.saturating_add-end.result - at ≡ length bytes = omega arith in
+          (λ i. take at old ++ (c.copy_from_slice.ensures.after i ++ drop (e i) (drop at old))) ∙ ap (λ d. take at old ++ (bytes ++ d)) (drop-drop (length bytes) at old);
     }

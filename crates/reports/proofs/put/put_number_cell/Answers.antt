@@ -4,4 +4,4 @@ use Rattle.reports.proofs.Steps.{next}
 use Rattle.reports.proofs.put.put_number_cell.Goals as goal
 
 pub returns : goal.returns
-returns c = next _ _ _ (44 ∷ []) (decimal c.args.n) _ _ _ c.put-bytes-at.ensures c.put-number.ensures
+returns c = next _ _ _ (44 ∷ []) (decimal c.args.n) _ _ _ c.put_bytes-at.ensures c.put_number.ensures

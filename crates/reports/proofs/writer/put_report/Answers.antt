@@ -12,8 +12,8 @@ use Rattle.reports.proofs.Lines.{line_publishers}
 use Rattle.reports.proofs.Steps.{next}
 use Rattle.reports.proofs.writer.put_report.Goals as goal
 
-pub put-title-lines-requires : goal.put-title-lines-requires
-put-title-lines-requires g c =
+pub put_title_lines-requires : goal.put_title_lines-requires
+put_title_lines-requires g c =
     let shape = c.of-shape.ensures.shape in
     record { columns = c.of-shape.ensures.few; table = c.requires.table ∙ (λ i. length-map c.args.titles.now entry_of i * (sym shape i).columns * 2) }
 
@@ -24,10 +24,10 @@ returns g c =
     let cells = c.args.cells.now in
     let lines = lines_from cells (length l.headings) 0 (map entry_of c.args.titles.now) in
     let shape = c.of-shape.ensures.shape in
-    let publisher : c.shared-publisher.result.now ≡ shared_publisher lines = c.shared-publisher.ensures ∙ sym (ap shared (line_publishers cells (length l.headings) 0 c.args.titles.now)) in
+    let publisher : c.shared_publisher.result.now ≡ shared_publisher lines = c.shared_publisher.ensures ∙ sym (ap shared (line_publishers cells (length l.headings) 0 c.args.titles.now)) in
     let total = (λ i. usage_line (shape i).ytd (codes "Total for all journals") (publisher i) platform [] [] (usage_of (shape i).columns c.args.totals.now)) ∙ ap (usage_line l.ytd (codes "Total for all journals") (shared_publisher lines) platform [] []) c.requires.usage in
-    next _ _ _ _ _ _ _ _ c.put-front-at.ensures
-    (next _ _ _ _ _ _ _ _ c.put-heading-line-at.ensures
+    next _ _ _ _ _ _ _ _ c.put_front-at.ensures
+    (next _ _ _ _ _ _ _ _ c.put_heading_line-at.ensures
     (next _ _ _ _ _ _ _ _
-    (subst (λ text. Put c.put-heading-line-at.new.out c.put-heading-line-at.result text c.put-count-line-at.new.out c.put-count-line-at.result) total c.put-count-line-at.ensures)
-    (subst (λ s. Put c.put-count-line-at.new.out c.put-count-line-at.result (flat_map (title_line s.ytd platform) (lines_from cells s.columns 0 (map entry_of c.args.titles.now))) c.put-title-lines.new.out c.put-title-lines.result) shape c.put-title-lines.ensures)))
+    (subst (λ text. Put c.put_heading_line-at.new.out c.put_heading_line-at.result text c.put_count_line-at.new.out c.put_count_line-at.result) total c.put_count_line-at.ensures)
+    (subst (λ s. Put c.put_count_line-at.new.out c.put_count_line-at.result (flat_map (title_line s.ytd platform) (lines_from cells s.columns 0 (map entry_of c.args.titles.now))) c.put_title_lines.new.out c.put_title_lines.result) shape c.put_title_lines.ensures)))

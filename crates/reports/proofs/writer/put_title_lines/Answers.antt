@@ -14,8 +14,8 @@ use Rattle.reports.proofs.writer.put_title_lines.Goals as goal
 pub loop-title-init : goal.loop-title-init
 loop-title-init c = none c.args.out.now c.args.at c.ranges.at.fits
 
-pub title-counts-counts-requires : goal.title-counts-counts-requires
-title-counts-counts-requires c =
+pub title_counts-counts-requires : goal.title_counts-counts-requires
+title_counts-counts-requires c =
     let w = within c.loop-title.title (length c.args.titles.now) c.args.shape.columns (omega arith) in
     record { few = omega arith; table = omega (arith, w) }
 
@@ -27,7 +27,7 @@ loop-title-preserved c =
     let long = length-map c.args.titles.now entry_of in
     let lines = length_lines cells n 0 es in
     row_more (title_line c.args.shape.ytd c.args.platform.now) (lines_from cells n 0 es) c.loop-title.title _ _ _ (omega arith) _ _ _ _ c.loop-title.invariant
-    (subst (λ text. Put c.loop-title.out c.loop-title.end text c.put-title-line-end.new.out c.put-title-line-end.result) (line_is cells n c.args.shape.ytd c.args.platform.now c.args.titles.now c.loop-title.title _ _ (omega arith) c.title-counts-counts.ensures.usage) c.put-title-line-end.ensures)
+    (subst (λ text. Put c.loop-title.out c.loop-title.end text c.put_title_line-end.new.out c.put_title_line-end.result) (line_is cells n c.args.shape.ytd c.args.platform.now c.args.titles.now c.loop-title.title _ _ (omega arith) c.title_counts-counts.ensures.usage) c.put_title_line-end.ensures)
 
 pub returns : goal.returns
 returns c =

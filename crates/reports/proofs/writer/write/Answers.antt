@@ -9,15 +9,15 @@ use Rattle.reports.proofs.Grounds.{answer_given, answer_refused, answer_short, n
 use Rattle.reports.proofs.Steps.{fits, given, too_long}
 use Rattle.reports.proofs.writer.write.Goals as goal
 
-pub returns-in-err-totals : goal.returns-in-err-totals
-returns-in-err-totals g c =
+pub returns-in_err-totals : goal.returns-in_err-totals
+returns-in_err-totals g c =
     let s = subject_of g.S.ColumnScheme.layout c.args.ledger.now c.args.cells.now c.args.titles.now c.args.header.now in
     let old = c.args.out.now in
-    let p = err_from_is_err_and c.from-residual.result c.from-residual.ensures.1 in
-    let e = c.in-err-totals.field-0.0 in
-    let is : c.from-residual.result ≡ Err e = p.1 ∙ ap Err p.2 in
+    let p = err_from_is_err_and c.from_residual.result c.from_residual.ensures.1 in
+    let e = c.in_err-totals.field-0.0 in
+    let is : c.from_residual.result ≡ Err e = p.1 ∙ ap Err p.2 in
     record {
-      answer = is ∙ answer_refused s (length old) e c.in-err-totals.ensures;
+      answer = is ∙ answer_refused s (length old) e c.in_err-totals.ensures;
       numbered = subst (λ r. IfErr r (λ x. refusal_number x ≡ 11)) (sym is) (numbered e);
       buffer = sym (ap (λ r. buffer_after r (text_about s) old) is);
     }
@@ -28,9 +28,9 @@ returns-then-length-out g c =
     let old = c.args.out.now in
     let room : length old < 2 ^ 63 = search rules in
     let same = ap (λ x. let l = g.S.ColumnScheme.layout x in report_text l (report_of s.head s.cells (length l.headings) s.entries)) c.scheme.ensures in
-    let measured = c.put-report-length.ensures.ends ∙ ap (λ t. min (0 + length t) (2 ^ 64 - 1)) same in
+    let measured = c.put_report-length.ensures.ends ∙ ap (λ t. min (0 + length t) (2 ^ 64 - 1)) same in
     record {
-      answer = answer_short s (length old) _ c.in-ok-totals.ensures (too_long old old (text_about s) room _ measured (omega arith));
+      answer = answer_short s (length old) _ c.in_ok-totals.ensures (too_long old old (text_about s) room _ measured (omega arith));
       numbered = refl;
       buffer = refl;
     }
@@ -42,12 +42,12 @@ returns g c =
     let room : length old < 2 ^ 63 = search rules in
     let same = ap (λ x. let l = g.S.ColumnScheme.layout x in report_text l (report_of s.head s.cells (length l.headings) s.entries)) c.scheme.ensures in
     let same_2 = ap (λ x. let l = g.S.ColumnScheme.layout x in report_text l (report_of s.head s.cells (length l.headings) s.entries)) c.scheme-2.ensures in
-    let measured = c.put-report-length.ensures.ends ∙ ap (λ t. min (0 + length t) (2 ^ 64 - 1)) same in
-    let put = subst (λ t. Put old 0 t c.put-report.new.out c.put-report.result) same_2 c.put-report.ensures in
+    let measured = c.put_report-length.ensures.ends ∙ ap (λ t. min (0 + length t) (2 ^ 64 - 1)) same in
+    let put = subst (λ t. Put old 0 t c.put_report.new.out c.put_report.result) same_2 c.put_report.ensures in
     let long = fits old old (text_about s) room _ measured (omega arith) in
-    let done = given old c.put-report.new.out (text_about s) room _ measured _ long put in
+    let done = given old c.put_report.new.out (text_about s) room _ measured _ long put in
     record {
-      answer = ap Ok done.0 ∙ answer_given s (length old) _ c.in-ok-totals.ensures long;
+      answer = ap Ok done.0 ∙ answer_given s (length old) _ c.in_ok-totals.ensures long;
       numbered = tt;
       buffer = done.1 ∙ ap (λ n. text_about s ++ drop n old) (sym done.0);
     }

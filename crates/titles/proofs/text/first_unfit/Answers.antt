@@ -5,13 +5,13 @@ use Rattle.titles.specs.Texts.{first_unfit_byte}
 use Rattle.titles.proofs.Fitness.{one_byte}
 use Rattle.titles.proofs.text.first_unfit.Goals as goal
 
-pub returns-then-not-is-fit : goal.returns-then-not-is-fit
-returns-then-not-is-fit c =
-    one_byte c.args.bytes.now c.loop-place.place false (omega arith) c.if-not-is-fit.ensures ∙ c.loop-place.invariant
+pub returns-then-not-is_fit : goal.returns-then-not-is_fit
+returns-then-not-is_fit c =
+    one_byte c.args.bytes.now c.loop-place.place false (omega arith) c.if-not-is_fit.ensures ∙ c.loop-place.invariant
 
 pub loop-place-preserved : goal.loop-place-preserved
 loop-place-preserved c =
-    one_byte c.args.bytes.now c.loop-place.place true (omega arith) c.if-not-is-fit.ensures ∙ c.loop-place.invariant
+    one_byte c.args.bytes.now c.loop-place.place true (omega arith) c.if-not-is_fit.ensures ∙ c.loop-place.invariant
 
 pub returns : goal.returns
 returns c =

@@ -10,18 +10,18 @@ pub returns : goal.returns
 returns c =
     let here = c.args.self.now in
     let p = place_of here in
-    let rest = c.split-at.result.1.now in
+    let rest = c.split_at.result.1.now in
     let end = c.in-Some.end in
     let moved : place_of c.if-last.self ≡ behind end.last p (drop (end.length + length (end_text end.last)) rest) =
     elim c.if-last.branch [
       | then-last w ↦
-          ap place_of w.self-is ∙ moved_behind here.file.now rest here.offset end.length p true end.last c.split-at.ensures.back w.if-last.true
+          ap place_of w.self-is ∙ moved_behind here.file.now rest here.offset end.length p true end.last c.split_at.ensures.back w.if-last.true
       | else-last w ↦
-          ap place_of w.self-is ∙ moved_behind here.file.now rest here.offset end.length p false end.last c.split-at.ensures.back w.if-last.false
+          ap place_of w.self-is ∙ moved_behind here.file.now rest here.offset end.length p false end.last c.split_at.ensures.back w.if-last.false
     ] in
     let column : (spot_of c.of.result).column ≡ here.column = ap (λ (f : Found). f.spot.column) c.of.ensures in
     let low : here.column + 1 < 2 ^ 64 = search rules in
     record {
-      read = cell_read p rest c.split-at-2.result.0.now end _ _ c.split-at.ensures.back c.in-Some.ensures.cut c.split-at-2.ensures.front c.of.ensures moved;
+      read = cell_read p rest c.split_at-2.result.0.now end _ _ c.split_at.ensures.back c.in-Some.ensures.cut c.split_at-2.ensures.front c.of.ensures moved;
       low = omega (arith, low, column);
     }

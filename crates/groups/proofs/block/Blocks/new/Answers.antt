@@ -8,9 +8,9 @@ use Rattle.groups.proofs.block.Blocks.new.Goals as goal
 
 pub returns : goal.returns
 returns c = record {
-  divided = c.row-of.ensures.divided;
-  written = λ row rest e. c.row-of.ensures.divided ∙ ap (frames 0) e ∙ row_written 0 row rest ∙ ap (λ k. placed 0 row ++ frames k rest) (zero-add (length (written_row row)));
+  divided = c.row_of.ensures.divided;
+  written = λ row rest e. c.row_of.ensures.divided ∙ ap (frames 0) e ∙ row_written 0 row rest ∙ ap (λ k. placed 0 row ++ frames k rest) (zero-add (length (written_row row)));
   spelled = λ row e.
-      row_spelled 0 c.args.bytes.now row (All-from_get_or (λ b. b < 256) c.args.bytes.now 0 (λ i _. omega (arith, c.type-inv.bytes i))) (sym c.row-of.ensures.divided ∙ e);
-  ends = c.row-of.ensures.ends;
+      row_spelled 0 c.args.bytes.now row (All-from_get_or (λ b. b < 256) c.args.bytes.now 0 (λ i _. omega (arith, c.type_inv.bytes i))) (sym c.row_of.ensures.divided ∙ e);
+  ends = c.row_of.ensures.ends;
 }

@@ -7,8 +7,8 @@ use Rattle.readback.proofs.judge.Sums.add.Goals as goal
 pub loop-column-init : goal.loop-column-init
 loop-column-init c = (none_added c.args.self.now.columns c.args.numbers.now, refl, refl)
 
-pub overflow-add-self : goal.overflow-add-self
-overflow-add-self c = omega (arith, c.loop-column.invariant.0.low c.loop-column.column, c.requires.low.columns c.loop-column.column, c.type-inv.numbers c.loop-column.column, c.from.ensures)
+pub overflow_add-self : goal.overflow_add-self
+overflow_add-self c = omega (arith, c.loop-column.invariant.0.low c.loop-column.column, c.requires.low.columns c.loop-column.column, c.type_inv.numbers c.loop-column.column, c.from.ensures)
 
 pub loop-column-preserved : goal.loop-column-preserved
 loop-column-preserved c =
@@ -16,16 +16,16 @@ loop-column-preserved c =
       subst
           (λ (n : ℕ). AddedTo c.args.self.now.columns c.args.numbers.now (c.loop-column.column + 1) (set c.loop-column.self.columns c.loop-column.column (get_or c.loop-column.self.columns c.loop-column.column 0 + n)))
           (sym c.from.ensures)
-          (one_more_added c.args.self.now.columns c.args.numbers.now c.loop-column.self.columns c.loop-column.column (omega arith) c.loop-column-test.true (omega (arith, c.type-inv.numbers c.loop-column.column)) c.loop-column.invariant.0),
+          (one_more_added c.args.self.now.columns c.args.numbers.now c.loop-column.self.columns c.loop-column.column (omega arith) c.loop-column-test.true (omega (arith, c.type_inv.numbers c.loop-column.column)) c.loop-column.invariant.0),
       c.loop-column.invariant.1,
       c.loop-column.invariant.2,
     )
 
-pub overflow-add-self-2 : goal.overflow-add-self-2
-overflow-add-self-2 c = omega (arith, c.loop-column.invariant.1, c.from-2.ensures)
+pub overflow_add-self-2 : goal.overflow_add-self-2
+overflow_add-self-2 c = omega (arith, c.loop-column.invariant.1, c.from-2.ensures)
 
-pub overflow-add-self-3 : goal.overflow-add-self-3
-overflow-add-self-3 c = omega (arith, c.loop-column.invariant.2, c.from-3.ensures)
+pub overflow_add-self-3 : goal.overflow_add-self-3
+overflow_add-self-3 c = omega (arith, c.loop-column.invariant.2, c.from-3.ensures)
 
 pub returns : goal.returns
 returns c =
