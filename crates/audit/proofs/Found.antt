@@ -1,5 +1,5 @@
 -- What is found in a report that is read back.
-use Rattle.std.proofs.Common.{◌≡◌, ℕ, ◌+◌, ◌*◌, ◌≤◌, Bool, true, cond, leb, List, [], ◌∷◌, ◌++◌, map, length, take, drop, Ok, Err, sum_by, sum, Result, sym, refl, ap, ◌∙◌, mul-le-mul_right, suc-mul, zero-mul, arith, length-append}
+use Rattle.std.proofs.Common.{◌≡◌, ℕ, ◌+◌, ◌*◌, ◌≤◌, Bool, true, cond, leb, List, [], ◌∷◌, ◌++◌, length, take, drop, Ok, Err, sum_by, sum, Result, sym, refl, ap, ◌∙◌, mul-le-mul_right, suc-mul, zero-mul, arith, length-append}
 use Rattle.std.proofs.lemmas.List.{take_at}
 use Rattle.std.proofs.lemmas.List.Sums.{sum_by-append, sum_by-cons}
 use Rattle.std.proofs.lemmas.Bool.{and_parts, leb-true}
@@ -9,11 +9,10 @@ use Rattle.cells.specs.declared.fault.LineFault.{LineFault}
 use Rattle.cells.proofs.Granted.{no_ok, ok_same}
 use Rattle.grammar.specs.Files.{Reading, column_count, read_file}
 use Rattle.grammar.specs.Lines.{Row}
-use Rattle.readback.specs.declared.answer.ReadOut.{ReadOut}
 use Rattle.readback.specs.declared.answer.ReadRefusal.{ReadRefusal}
 use Rattle.readback.specs.declared.answer.ReadRefusal.TheVariants.{Faulty, ShortTables}
-use Rattle.readback.specs.Answers.{Summary, Tables, answer, filled_with, map_both, roomy, summary, summary_of, tables_after}
-use Rattle.readback.proofs.Rows.{EachFits, RowsFit, read_fit}
+use Rattle.readback.specs.Answers.{Summary, Tables, answer, filled_with, map_both, roomy, summary, tables_after}
+use Rattle.readback.proofs.Rows.{EachFits, read_fit}
 use Rattle.audit.specs.declared.checking.Found.{Found}
 use Rattle.audit.specs.Readings.{found_in}
 

@@ -1,17 +1,15 @@
 -- A report that was written, read back.
-use Rattle.std.proofs.Common.{◌≡◌, ℕ, ◌+◌, ◌≤◌, Bool, true, false, leb, List, [], ◌∷◌, ◌++◌, map, length, get_or, take, drop, is_ok, Some, None, Ok, Err, sum_by, sum, Option, Result, sym, refl, ap, ◌∙◌, subst, arith}
+use Rattle.std.proofs.Common.{◌≡◌, ℕ, ◌+◌, ◌≤◌, Bool, true, false, List, [], ◌∷◌, ◌++◌, map, length, get_or, take, drop, is_ok, Some, None, Ok, sum_by, sum, Option, sym, refl, ap, ◌∙◌, arith}
 use Rattle.std.proofs.lemmas.List.FromFn.{fill_by_all}
 use Rattle.std.proofs.lemmas.List.{length-map, take_at}
 use Rattle.std.proofs.lemmas.List.Sums.{sum-map, sum_by-cons}
-use Rattle.std.proofs.lemmas.Bool.{leb-true}
 use Rattle.std.specs.List.{range_with_len, AllByRecursion as All}
 use Rattle.columns.specs.Layouts as layouts
 use Rattle.columns.specs.Layouts.{Layout}
 use Rattle.cells.proofs.Granted.{no_ok, ok_same}
 use Rattle.reports.specs.declared.refusal.WriteRefusal.{WriteRefusal}
-use Rattle.reports.specs.declared.refusal.WriteRefusal.TheVariants.{Buffer}
 use Rattle.reports.specs.Answers.{Subject, answer, first_ground, grounds, outcome, report_about, text_about}
-use Rattle.reports.specs.Reports.{Line, Report, column_sum, totals}
+use Rattle.reports.specs.Reports.{Line, Report, column_sum}
 use Rattle.reports.proofs.Sums.{sum_by_swap}
 use Rattle.grammar.specs.Files.{Reading, column_count, line_of, read_file, reported}
 use Rattle.grammar.specs.Lines.{Row}

@@ -1,5 +1,5 @@
 -- What a report's file says, or its first fault.
-use Rattle.std.specs.Prelude.{ℕ, zero, suc, ◌+◌, Bool, cond, List, [], ◌∷◌, map, length, Ok, Err, Result, ◌==◌}
+use Rattle.std.specs.Prelude.{ℕ, zero, suc, ◌+◌, cond, List, [], ◌∷◌, map, length, Ok, Err, Result, ◌==◌}
 use Rattle.std.specs.Str.{bytes_eq}
 use Rattle.columns.specs.Layouts.{Layout}
 use Rattle.reports.specs.Reports.{Head, Line, Report, shared_publisher, shown_numbers, totals}

@@ -1,5 +1,5 @@
 -- What each line of a report's file says. Each reading begins at a place, and ends at the place behind what it read.
-use Rattle.std.specs.Prelude.{ℕ, zero, suc, ◌+◌, Bool, true, false, ◌&&◌, List, [], ◌∷◌, ◌++◌, Ok, Err, codes, sum, Result, ◌==◌}
+use Rattle.std.specs.Prelude.{ℕ, zero, suc, ◌+◌, Bool, true, false, ◌&&◌, List, [], ◌∷◌, ◌++◌, Ok, codes, sum, Result, ◌==◌}
 use Rattle.columns.specs.Layouts.{Layout}
 use Rattle.titles.specs.Titles.{Entry, new_entry}
 use Rattle.reports.specs.declared.header.Date.{Date}

@@ -93,6 +93,7 @@ fn offers() -> [Entry; 6] {
 }
 
 /// What the run came to: the tallies of the settled ledger, and the report that was written.
+#[derive(Drop)]
 struct Outcome {
     tallies: Tallies,
     written: Written,

@@ -5,7 +5,7 @@ use Rattle.std.proofs.lemmas.Bool.{and_parts, both_ways, leb-true, not-true, or_
 use Rattle.std.specs.List.{flat_map}
 use Rattle.columns.specs.Layouts.{Layout}
 use Rattle.reports.specs.Reports.{Usage}
-use Rattle.cells.specs.Places.{and_then, start}
+use Rattle.cells.specs.Places.{and_then}
 use Rattle.grammar.specs.Files.{Reading, column_count, head_of, read_file}
 use Rattle.grammar.specs.Lines.{Row}
 use Rattle.readback.specs.Answers.{Tables, filled_by, roomy, year_to_dates}

@@ -1,5 +1,5 @@
 -- Room in the lent tables.
-use Rattle.std.proofs.Common.{◌≡◌, ℕ, ◌*◌, not, ◌&&◌, ◌||◌, leb, List, map, length, ap}
+use Rattle.std.proofs.Common.{◌≡◌, ℕ, ◌*◌, not, ◌&&◌, ◌||◌, leb, List, length, ap}
 use Rattle.std.proofs.lemmas.List.{length-map}
 use Rattle.columns.specs.Layouts.{Layout}
 use Rattle.titles.specs.declared.title.Title.{Title}

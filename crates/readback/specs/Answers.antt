@@ -1,5 +1,5 @@
 -- What a reading answers, and what the lent tables then hold.
-use Rattle.std.specs.Prelude.{◌≡◌, ℕ, zero, suc, ◌+◌, ◌*◌, Bool, true, false, cond, not, ◌&&◌, ◌||◌, List, [], ◌∷◌, ◌++◌, map, length, take, drop, Ok, Err, Result, ◌≢◌, nat_le, slice_index}
+use Rattle.std.specs.Prelude.{◌≡◌, ℕ, zero, suc, ◌*◌, Bool, true, false, cond, not, ◌&&◌, ◌||◌, List, [], ◌∷◌, ◌++◌, map, length, take, drop, Ok, Err, Result, ◌≢◌, nat_le, slice_index}
 use Rattle.std.specs.List.{flat_map}
 use Rattle.columns.specs.Layouts.{Layout}
 use Rattle.titles.specs.Titles.{Entry, entry_of}

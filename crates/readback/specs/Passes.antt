@@ -2,7 +2,6 @@
 use Rattle.std.specs.Prelude.{ℕ, ◌+◌, ◌*◌, ◌≤◌, Bool, true, false, cond, List, [], ◌∷◌, ◌++◌, length, take, drop, replicate, Ok, Err, fold, Result, ◌==◌, slice_index, slice_set}
 use Rattle.std.specs.Str.{bytes_eq}
 use Rattle.columns.specs.Layouts.{Layout}
-use Rattle.titles.specs.declared.title.Title.{Title}
 use Rattle.titles.specs.Titles.{entry_of}
 use Rattle.reports.specs.Answers as writing
 use Rattle.reports.specs.Reports.{Head, Usage, shown_numbers}

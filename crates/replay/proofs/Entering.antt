@@ -1,5 +1,5 @@
 -- Replies entered one after another.
-use Rattle.std.proofs.Common.{◌≡◌, ℕ, ◌+◌, ◌<◌, ◌≤◌, List, ◌∷◌, map, length, get_or, take, set, Some, Option, sym, refl, ap, ◌∙◌, subst, arith}
+use Rattle.std.proofs.Common.{◌≡◌, ℕ, ◌+◌, ◌<◌, ◌≤◌, List, ◌∷◌, length, get_or, take, set, Some, sym, refl, ap, ◌∙◌, subst}
 use Rattle.std.proofs.lemmas.List.{get_or-map, map-set, set-get_or, take_all, take_more_set}
 use Rattle.records.specs.declared.item.Item.{Item}
 use Rattle.runs.specs.Past.{Call, Past}

@@ -1,5 +1,5 @@
 -- The heading of a column, as a scheme lends it.
-use Rattle.std.proofs.Common.{◌≡◌, ℕ, true, false, ltb, List, [], length, get_or, Some, None, Option, sym, ◌∙◌, ⊎_elim, arith}
+use Rattle.std.proofs.Common.{◌≡◌, ℕ, ltb, List, [], length, get_or, Some, None, sym, ◌∙◌, ⊎_elim, arith}
 use Rattle.std.proofs.lemmas.List.{get_or_past}
 use Rattle.std.proofs.lemmas.Bool.{cases_Bool, cond-false, cond-true, ltb-false}
 use Rattle.columns.specs.Layouts.{Layout, heading_at}

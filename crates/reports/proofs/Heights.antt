@@ -1,5 +1,5 @@
 -- No number of a title is over that of all journals in its column.
-use Rattle.std.proofs.Common.{◌≡◌, ℕ, ◌+◌, ◌*◌, ◌<◌, ◌≤◌, Bool, true, false, ◌&&◌, List, [], ◌∷◌, ◌++◌, map, length, get_or, sum_by, sum, sym, refl, ap, ◌∙◌, subst, ⊎_elim, arith}
+use Rattle.std.proofs.Common.{◌≡◌, ℕ, ◌+◌, ◌*◌, ◌<◌, ◌≤◌, Bool, true, false, ◌&&◌, List, [], ◌∷◌, map, length, get_or, sum_by, sum, sym, refl, ap, ◌∙◌, subst, ⊎_elim, arith}
 use Rattle.std.proofs.lemmas.List.FromFn.{get_or-range_with_len as getD-counting, length-range_with_len}
 use Rattle.std.proofs.lemmas.List.{length-map}
 use Rattle.std.proofs.lemmas.List.Sums.{get_or-le-sum_by, sum-map}
@@ -11,7 +11,7 @@ use Rattle.columns.specs.Layouts.{Layout}
 use Rattle.reports.specs.declared.counts.Counts.{Counts}
 use Rattle.reports.specs.declared.counts.Shape.{Shape}
 use Rattle.reports.specs.Counting.{Balanced, TotalsOf, html_sum, pdf_sum, usage_of}
-use Rattle.reports.specs.Reports.{Line, Usage, is_low, shown_numbers, table_numbers, totals, ytd_numbers}
+use Rattle.reports.specs.Reports.{Line, is_low, shown_numbers, table_numbers, totals, ytd_numbers}
 use Rattle.reports.specs.Tables.{html_at, line_of, lines_from, pdf_at, usage_by}
 use Rattle.reports.proofs.Lines.{totals_are}
 use Rattle.reports.proofs.Low.{all_pass_append}

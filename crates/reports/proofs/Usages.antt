@@ -7,7 +7,6 @@ use Rattle.std.proofs.lemmas.List.Sums.{sum-map}
 use Rattle.reports.specs.declared.counts.Counts.{Counts}
 use Rattle.reports.specs.declared.counts.Formats.{Formats}
 use Rattle.reports.specs.Counting.{Balanced, usage_of}
-use Rattle.reports.specs.Reports.{Usage}
 use Rattle.reports.specs.Tables.{usage_by}
 use Rattle.reports.proofs.Sums.{sum_by_counting_more, sum_by_plus}
 

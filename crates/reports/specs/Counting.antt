@@ -4,7 +4,7 @@ use Rattle.std.specs.List.{range_with_len}
 use Rattle.titles.specs.Titles.{Entry}
 use Rattle.reports.specs.declared.counts.Counts.{Counts}
 use Rattle.reports.specs.Reports.{Usage, totals}
-use Rattle.reports.specs.Tables.{html_at, lines_from, pdf_at, usage_by}
+use Rattle.reports.specs.Tables.{html_at, lines_from, pdf_at}
 
 -- the first n columns and the sums
 abbrev pub usage_of : ℕ → Counts → Usage

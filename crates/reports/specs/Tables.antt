@@ -1,5 +1,5 @@
 -- The report of a count table: what its cells come to, title by title.
-use Rattle.std.specs.Prelude.{ℕ, ◌+◌, ◌*◌, List, [], ◌∷◌, map, length, sum_by, slice_index}
+use Rattle.std.specs.Prelude.{ℕ, ◌+◌, ◌*◌, List, [], ◌∷◌, map, sum_by, slice_index}
 use Rattle.std.specs.List.{range_with_len}
 use Rattle.titles.specs.Titles.{Entry, issn_bytes}
 use Rattle.reports.specs.Reports.{Head, Line, Report, Usage}

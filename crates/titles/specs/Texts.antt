@@ -1,5 +1,5 @@
 -- What is wrong with bytes that are no text.
-use Rattle.std.specs.Prelude.{ℕ, Bool, cond, ◌&&◌, List, length, Some, None, Ok, Err, Option, Result, nat_le}
+use Rattle.std.specs.Prelude.{ℕ, cond, ◌&&◌, List, length, Some, None, Ok, Err, Option, Result, nat_le}
 use Rattle.texts.specs.Texts.{fit}
 use Rattle.titles.specs.declared.text.TextFault.{TextFault}
 use Rattle.titles.specs.declared.text.TextFault.TheVariants.{Length, Unfit}

@@ -1,9 +1,8 @@
 -- What a title says, and what is wrong with one.
-use Rattle.std.specs.Prelude.{ℕ, Bool, true, ◌&&◌, List, [], is_ok, Some, None, Ok, Err, Option, Result}
+use Rattle.std.specs.Prelude.{ℕ, Bool, true, ◌&&◌, List, [], Some, None, Ok, Err, Option, Result}
 use Rattle.texts.specs.Texts.{is_text}
 use Rattle.titles.specs.declared.issn.Issn.{Issn}
 use Rattle.titles.specs.declared.issn.IssnFault.{IssnFault}
-use Rattle.titles.specs.declared.text.TextFault.{TextFault}
 use Rattle.titles.specs.declared.title.Title.{Title}
 use Rattle.titles.specs.declared.title.TitleFault.{TitleFault}
 use Rattle.titles.specs.declared.title.TitleFault.TheVariants.{Name, Publisher, Print, Online}

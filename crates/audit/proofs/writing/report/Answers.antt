@@ -1,11 +1,10 @@
 -- The writer's own contract, what is read back, and what follows for a ledger that stands.
-use Rattle.std.proofs.Common.{◌≡◌, ℕ, ◌-◌, List, ◌++◌, length, take, drop, Ok, Err, Result, sym, refl, ap, ◌∙◌, subst, arith, rules}
+use Rattle.std.proofs.Common.{◌≡◌, ◌-◌, ◌++◌, length, take, drop, Ok, sym, refl, ap, ◌∙◌, subst, arith, rules}
 use Rattle.cells.proofs.Granted.{no_ok, ok_same}
 use Rattle.ledger.specs.Views.{settled_books_of, setup}
 use Rattle.reports.specs.Answers.{answer, report_about, subject_of, text_about}
 use Rattle.reports.specs.Reports.{Report}
 use Rattle.grammar.specs.Files.{read_file}
-use Rattle.readback.specs.declared.answer.ReadRefusal.{ReadRefusal}
 use Rattle.readback.specs.declared.answer.ReadRefusal.TheVariants.{Faulty}
 use Rattle.readback.specs.Answers.{ReadAs, map_both}
 use Rattle.readback.proofs.Telling.{read_as}

@@ -1,6 +1,6 @@
 use Rattle.std.proofs.Common.{◌≡◌, ◌-◌, ◌≤◌}
 use Rattle.cells.specs.Cells.{place_of}
-use Rattle.readback.specs.Answers.{new_tables, roomy}
+use Rattle.readback.specs.Answers.{new_tables}
 use Rattle.readback.specs.Passes.{filled_row, new_filling, over}
 use Rattle.readback.proofs.fill.fill_titles.Given as goal
 

@@ -1,4 +1,4 @@
-use Rattle.std.proofs.Common.{◌∙◌, rules}
+use Rattle.std.proofs.Common.{◌∙◌}
 use Rattle.readback.proofs.Judging.{judged_is}
 use Rattle.readback.proofs.judge.judge_file.Goals as goal
 

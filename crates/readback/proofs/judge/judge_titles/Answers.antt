@@ -1,10 +1,10 @@
-use Rattle.std.proofs.Common.{◌≡◌, ℕ, ◌+◌, ◌-◌, ◌*◌, ◌<◌, ◌≤◌, Bool, true, false, length, Ok, Err, sym, refl, ap, ◌∙◌, subst, arith, rules}
+use Rattle.std.proofs.Common.{◌≡◌, ℕ, ◌+◌, ◌-◌, ◌*◌, ◌<◌, length, Ok, sym, ap, ◌∙◌, subst, arith}
 use Rattle.std.proofs.lemmas.Result.{err_from_is_err_and}
 use Rattle.cells.specs.Cells.{place_of}
 use Rattle.grammar.specs.Files.{column_count}
-use Rattle.grammar.specs.Lines.{Row, row_at}
-use Rattle.readback.specs.Passes.{Low, Tally, no_tally, over, row_with, tallied, tally_of}
-use Rattle.readback.proofs.Titles.{titles_full, titles_last, titles_more, titles_stop}
+use Rattle.grammar.specs.Lines.{row_at}
+use Rattle.readback.specs.Passes.{Low, Tally, over, row_with, tallied, tally_of}
+use Rattle.readback.proofs.Titles.{titles_last, titles_more, titles_stop}
 use Rattle.readback.proofs.judge.judge_titles.Goals as goal
 
 pub loop-judged-init : goal.loop-judged-init

@@ -1,5 +1,4 @@
-use Rattle.std.proofs.Common.{◌≡◌, sym, ◌∙◌, arith, rules}
-use Rattle.grammar.specs.Lines.{figure_count}
+use Rattle.std.proofs.Common.{arith, rules}
 use Rattle.readback.proofs.judge.judge_with.Goals as goal
 
 pub check_totals-requires : goal.check_totals-requires

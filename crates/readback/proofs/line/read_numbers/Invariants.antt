@@ -1,4 +1,4 @@
-use Rattle.std.proofs.Common.{◌≡◌, ◌-◌, length, take}
+use Rattle.std.proofs.Common.{◌≡◌, ◌-◌, take}
 use Rattle.cells.specs.Places.{and_then}
 use Rattle.cells.specs.Cells.{place_of}
 use Rattle.grammar.specs.Lines.{numbers_at}

@@ -1,4 +1,4 @@
-use Rattle.std.proofs.Common.{◌≡◌, sym, ap, ◌∙◌, arith, rules}
+use Rattle.std.proofs.Common.{rules}
 use Rattle.readback.proofs.Room.{roomy_is}
 use Rattle.readback.proofs.reading.has_room.Goals as goal
 

@@ -1,8 +1,7 @@
-use Rattle.std.proofs.Common.{◌≡◌, true, Ok, Err, sym, ap, ◌∙◌, rules}
+use Rattle.std.proofs.Common.{◌≡◌, true, Ok, Err, sym, ◌∙◌, rules}
 use Rattle.std.proofs.lemmas.Result.{err_from_is_err_and}
 use Rattle.readback.specs.declared.answer.ReadRefusal.TheVariants.{Faulty}
 use Rattle.readback.specs.Answers.{new_tables, roomy, summary_of}
-use Rattle.readback.specs.Passes.{judged_at}
 use Rattle.readback.proofs.Answering.{answer_granted, answer_refused}
 use Rattle.readback.proofs.Judging.{judged_is}
 use Rattle.readback.proofs.Telling.{faulty_number, given_by, told_by}

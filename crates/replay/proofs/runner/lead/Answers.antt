@@ -1,4 +1,4 @@
-use Rattle.std.proofs.Common.{◌<◌, ◌≤◌, [], ◌++◌, length, refl, ◌∙◌, arith}
+use Rattle.std.proofs.Common.{◌<◌, [], ◌++◌, length, refl, ◌∙◌, arith}
 use Rattle.replay.specs.Rows.{none}
 use Rattle.replay.proofs.Entering.{steps_kept, told_all, told_more}
 use Rattle.replay.proofs.runner.lead.Goals as goal

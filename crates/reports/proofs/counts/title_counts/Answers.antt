@@ -1,7 +1,7 @@
 -- One more column of the title's line.
-use Rattle.std.proofs.Common.{◌≡◌, ◌*◌, ◌≤◌, length, ap, subst, arith}
+use Rattle.std.proofs.Common.{◌≡◌, ap, subst, arith}
 use Rattle.reports.specs.declared.counts.Counts.{Counts}
-use Rattle.reports.specs.Counting.{html_sum, pdf_sum, usage_of}
+use Rattle.reports.specs.Counting.{usage_of}
 use Rattle.reports.specs.Tables.{html_at, pdf_at, usage_by}
 use Rattle.reports.proofs.Usages.{balanced, usage_more}
 use Rattle.reports.proofs.counts.title_counts.Goals as goal

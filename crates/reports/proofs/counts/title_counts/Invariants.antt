@@ -1,6 +1,6 @@
 -- The columns before this one are counted, each of which adds at most 2 ^ 41 to either sum.
-use Rattle.std.proofs.Common.{◌≡◌, ◌*◌, ◌^◌, ◌≤◌, length}
-use Rattle.reports.specs.Counting.{html_sum, pdf_sum, usage_of}
+use Rattle.std.proofs.Common.{◌≡◌, ◌*◌, ◌^◌, ◌≤◌}
+use Rattle.reports.specs.Counting.{usage_of}
 use Rattle.reports.specs.Tables.{html_at, pdf_at, usage_by}
 use Rattle.reports.proofs.counts.title_counts.Given as goal
 

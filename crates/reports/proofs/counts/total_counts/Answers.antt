@@ -1,5 +1,5 @@
 -- One more column of the line for all journals.
-use Rattle.std.proofs.Common.{◌≡◌, ◌*◌, ◌≤◌, length, ap, subst, arith}
+use Rattle.std.proofs.Common.{◌≡◌, length, ap, subst, arith}
 use Rattle.reports.specs.declared.counts.Counts.{Counts}
 use Rattle.reports.specs.Counting.{html_sum, pdf_sum, usage_of}
 use Rattle.reports.specs.Tables.{usage_by}

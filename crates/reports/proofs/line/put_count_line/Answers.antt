@@ -1,5 +1,5 @@
 -- The texts, the columns, the year-to-date numbers and the end make the line.
-use Rattle.std.proofs.Common.{[], ◌∷◌, ◌++◌, map, take, decimal, sym, subst}
+use Rattle.std.proofs.Common.{[], ◌∷◌, ◌++◌, map, decimal, sym, subst}
 use Rattle.std.proofs.lemmas.List.{map-append}
 use Rattle.reports.specs.Counting.{usage_of}
 use Rattle.reports.specs.Puts.{Put}

@@ -1,7 +1,6 @@
 -- The library compares slices as the definition compares rows of bytes.
 use Rattle.std.proofs.Common.{◌≡◌, Bool, true, false, Decides, sym, refl}
 use Rattle.std.proofs.lemmas.Slice.Eq.{slice_eq-Decides, bytes_eq-Decides}
-use Rattle.std.specs.Str.{bytes_eq}
 use Rattle.reports.proofs.publisher.same_bytes.Goals as goal
 use Rattle.std.proofs.lemmas.Bool.Decides.{Decides-eqb}
 

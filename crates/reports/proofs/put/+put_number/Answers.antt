@@ -1,5 +1,5 @@
 -- The last digit stands behind those of a tenth.
-use Rattle.std.proofs.Common.{◌≡◌, ◌+◌, ◌/◌, ◌%◌, ◌^◌, ◌<◌, [], ◌∷◌, decimal, sym, subst, arith, rules}
+use Rattle.std.proofs.Common.{◌^◌, ◌<◌, sym, subst, arith, rules}
 use Rattle.std.proofs.lemmas.Fmt.{decimal_digit, decimal_step}
 use Rattle.reports.specs.Puts.{Put}
 use Rattle.reports.proofs.Steps.{next}

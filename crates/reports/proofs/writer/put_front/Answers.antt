@@ -1,5 +1,5 @@
 -- Four lines one after another.
-use Rattle.std.proofs.Common.{[], ◌∷◌, ◌++◌, subst}
+use Rattle.std.proofs.Common.{[], ◌++◌, subst}
 use Rattle.reports.specs.Puts.{Put}
 use Rattle.reports.specs.Written.{next_cell, line_end}
 use Rattle.reports.proofs.Steps.{last, next}

@@ -1,5 +1,5 @@
 -- The four lines above the table, its two first lines, and those of the titles.
-use Rattle.std.proofs.Common.{◌≡◌, ◌*◌, [], map, length, codes, sym, ap, ◌∙◌, subst, arith}
+use Rattle.std.proofs.Common.{◌≡◌, ◌*◌, [], map, length, codes, sym, ap, ◌∙◌, subst}
 use Rattle.std.specs.List.{flat_map}
 use Rattle.std.proofs.lemmas.List.{length-map}
 use Rattle.titles.specs.Titles.{entry_of}
@@ -7,7 +7,7 @@ use Rattle.reports.specs.Counting.{usage_of}
 use Rattle.reports.specs.Puts.{Put}
 use Rattle.reports.specs.Reports.{shared, shared_publisher}
 use Rattle.reports.specs.Tables.{lines_from}
-use Rattle.reports.specs.Written.{title_line, total_line, usage_line}
+use Rattle.reports.specs.Written.{title_line, usage_line}
 use Rattle.reports.proofs.Lines.{line_publishers}
 use Rattle.reports.proofs.Steps.{next}
 use Rattle.reports.proofs.writer.put_report.Goals as goal

@@ -1,9 +1,9 @@
 -- One more title, whose cells are in the table.
-use Rattle.std.proofs.Common.{◌≡◌, map, length, get_or, sym, ap, ◌∙◌, subst, arith}
-use Rattle.std.proofs.lemmas.List.{get_or-map, length-map}
+use Rattle.std.proofs.Common.{map, length, subst, arith}
+use Rattle.std.proofs.lemmas.List.{length-map}
 use Rattle.titles.specs.Titles.{entry_of}
 use Rattle.reports.specs.Puts.{Put}
-use Rattle.reports.specs.Tables.{html_at, line_of, lines_from, pdf_at, usage_by}
+use Rattle.reports.specs.Tables.{lines_from}
 use Rattle.reports.specs.Written.{title_line}
 use Rattle.reports.proofs.Lines.{length_lines, line_is}
 use Rattle.reports.proofs.Places.{within}

@@ -1,7 +1,7 @@
 -- A ground that was found, a buffer that is too short, or the report in the buffer.
-use Rattle.std.proofs.Common.{◌≡◌, ◌+◌, ◌-◌, ◌^◌, ◌<◌, min, ◌++◌, map, length, drop, IfErr, Ok, Err, sym, refl, ap, ◌∙◌, subst, arith, rules}
+use Rattle.std.proofs.Common.{◌≡◌, ◌+◌, ◌-◌, ◌^◌, ◌<◌, min, ◌++◌, length, drop, IfErr, Ok, Err, sym, refl, ap, ◌∙◌, subst, arith, rules}
 use Rattle.std.proofs.lemmas.Result.{err_from_is_err_and}
-use Rattle.reports.specs.Answers.{answer, buffer_after, refusal_number, subject_of, text_about}
+use Rattle.reports.specs.Answers.{buffer_after, refusal_number, subject_of, text_about}
 use Rattle.reports.specs.Puts.{Put}
 use Rattle.reports.specs.Tables.{report_of}
 use Rattle.reports.specs.Written.{report_text}

@@ -1,5 +1,4 @@
-use Rattle.std.proofs.Common.{◌≡◌, ℕ, List, [], refl, ap, arith}
-use Rattle.readback.specs.Passes.{Tally}
+use Rattle.std.proofs.Common.{ℕ, List, [], ap, arith}
 use Rattle.readback.proofs.Tallying.{take_zeros, zeros_low}
 use Rattle.readback.proofs.judge.Judged.none.Goals as goal
 

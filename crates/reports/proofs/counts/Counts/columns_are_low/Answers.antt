@@ -1,6 +1,5 @@
 -- A low column leaves the rest to decide, and a high one decides.
-use Rattle.std.proofs.Common.{◌≡◌, ◌<◌, true, false, length, get_or, take, sym, ◌∙◌, arith, rules}
-use Rattle.reports.specs.Reports.{is_low}
+use Rattle.std.proofs.Common.{◌≡◌, length, ◌∙◌, arith, rules}
 use Rattle.reports.proofs.Low.{low_all, low_more, low_stops}
 use Rattle.reports.proofs.counts.Counts.columns_are_low.Goals as goal
 
