@@ -3,7 +3,7 @@ use Rattle.std.proofs.Common.{⊎_elim, subst, arith}
 use Rattle.std.specs.Prelude.{◌≡◌, ℕ, zero, suc, ◌+◌, ◌-◌, ◌*◌, ◌/◌, ◌<◌, ◌≤◌, Some, None, refl}
 use Rattle.std.proofs.lemmas.Bool.{cases_order}
 use Rattle.std.proofs.lemmas.Bool.Decides.{nat_tests}
-use Rattle.columns.specs.Calendar.{leap, days_in_year, days_of_years, days_of_months, year_start, month_start, InYear, InMonth, MonthOf}
+use Rattle.columns.specs.Calendar.{days_in_year, days_of_years, days_of_months, year_start, month_start, InYear, InMonth, MonthOf}
 use Rattle.columns.specs.declared.calendar.Month.{Month}
 
 -- the leap years among the first n are every fourth one, from the first on

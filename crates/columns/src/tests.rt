@@ -103,8 +103,8 @@ fn january_and_february(rt: HostRuntime) -> Result<(), Fail> {
         return Err(Fail::new("a scheme"));
     };
     assert_eq!(rt; scheme.columns(), 2);
-    assert!(rt; scheme.heading(0).ok_or("a heading")? == b"Jan-2009");
-    assert!(rt; scheme.heading(1).ok_or("a heading")? == b"Feb-2009");
+    assert!(rt; scheme.heading(0).ok_or("a heading")? == b"Jan-2009".as_slice());
+    assert!(rt; scheme.heading(1).ok_or("a heading")? == b"Feb-2009".as_slice());
     assert!(rt; scheme.heading(2).is_none());
     for (time, column) in TIMES {
         assert_eq!(rt; scheme.column(&request(time, 0)), column);
@@ -118,9 +118,9 @@ fn five_years_and_before(rt: HostRuntime) -> Result<(), Fail> {
         return Err(Fail::new("a scheme"));
     };
     assert_eq!(rt; scheme.columns(), 6);
-    assert!(rt; scheme.heading(0).ok_or("a heading")? == b"YOP-2009");
-    assert!(rt; scheme.heading(4).ok_or("a heading")? == b"YOP-2005");
-    assert!(rt; scheme.heading(5).ok_or("a heading")? == b"YOP Pre-2005");
+    assert!(rt; scheme.heading(0).ok_or("a heading")? == b"YOP-2009".as_slice());
+    assert!(rt; scheme.heading(4).ok_or("a heading")? == b"YOP-2005".as_slice());
+    assert!(rt; scheme.heading(5).ok_or("a heading")? == b"YOP Pre-2005".as_slice());
     assert!(rt; scheme.heading(6).is_none());
     for (time, published, column) in PUBLISHED {
         assert_eq!(rt; scheme.column(&request(time, published)), column);

@@ -44,7 +44,7 @@ fn a_list_by_hand(rt: HostRuntime) -> Result<(), Fail> {
     let mut table = [BLANK, BLANK];
     assert!(rt; matches!(read_list(&RIGHT, &mut table), Ok(1)));
     let (first, second) = names(&table).ok_or("two entries")?;
-    assert!(rt; first == b"Kiln Annals" && second.is_empty());
+    assert!(rt; first == b"Kiln Annals".as_slice() && second.is_empty());
     Ok(())
 }
 
@@ -54,7 +54,7 @@ fn a_refused_list_leaves_the_table(rt: HostRuntime) -> Result<(), Fail> {
     assert!(rt; matches!(read_list(&RIGHT, &mut table), Ok(1)));
     assert!(rt; read_list(&SHORT_ISSN, &mut table).is_err());
     let (first, _) = names(&table).ok_or("two entries")?;
-    assert!(rt; first == b"Kiln Annals");
+    assert!(rt; first == b"Kiln Annals".as_slice());
     Ok(())
 }
 
