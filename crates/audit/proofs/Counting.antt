@@ -1,6 +1,6 @@
 -- Requests of which each stands in one cell: what the cells come to, by title, by column, by format, and in all.
 use Rattle.std.proofs.Common.{◌≡◌, ℕ, ◌+◌, ◌<◌, Bool, true, false, cond, ◌&&◌, List, length, sum_by, count_by, refl, ap, ◌∙◌}
-use Rattle.std.specs.List.{range_with_len, AllByRecursion as All}
+use Rattle.std.specs.List.{range_with_len, AllByRecursion}
 use Rattle.std.proofs.ByRecursion.{All-weaker}
 use Rattle.std.proofs.lemmas.Bool.{and_right}
 use Rattle.records.specs.declared.request.Request.{Request}
@@ -25,7 +25,7 @@ module _ (u : Setup) (n : ℕ) (r : Request) (a : Acceptable u n r) where
   own_format p q = either p q r.format (format_low u n r a) (format_high u n r a)
 
 -- a count table that holds the requests rs, of which each has a cell
-module _ (u : Setup) (n : ℕ) (rs : List Request) (accepted : All (Acceptable u n) rs) where
+module _ (u : Setup) (n : ℕ) (rs : List Request) (accepted : AllByRecursion (Acceptable u n) rs) where
   module _ (cells : List ℕ) (html_is : (t c : ℕ) → t < u.titles → c < u.columns → html_at cells u.columns t c ≡ count_by (in_cell u t c 1) rs) (pdf_is : (t c : ℕ) → t < u.titles → c < u.columns → pdf_at cells u.columns t c ≡ count_by (in_cell u t c 2) rs) where
     pub both_are : (t c : ℕ) → t < u.titles → c < u.columns → both_at cells u.columns t c ≡ count_by (λ r. of_title t r && in_column u c r) rs
     both_are t c in-t in_c =

@@ -1,6 +1,6 @@
 -- The report of a ledger that stands settled.
 use Rattle.std.proofs.Common.{◌≡◌, ℕ, ◌+◌, ◌*◌, ◌<◌, ◌≤◌, Bool, true, ◌||◌, List, [], ◌∷◌, length, get_or, is_ok, IfOk, Ok, Err, sum, count_by, filter, Result, sym, refl, ap, ◌∙◌, subst, arith}
-use Rattle.std.specs.List.{AllByRecursion as All}
+use Rattle.std.specs.List.{AllByRecursion}
 use Rattle.std.proofs.lemmas.List.FromFn.{length-map-range_with_len}
 use Rattle.std.proofs.lemmas.List.{append-nil, get_or_at}
 use Rattle.records.specs.declared.request.Request.{Request}
@@ -43,7 +43,7 @@ module _ (u : Setup) (p : Past) (b : Books) (stands : Stands u p b) (settled : b
   pdf_is : (t c : ℕ) → t < u.titles → c < u.columns → pdf_at b.cells u.columns t c ≡ count_by (in_cell u t c 2) rs
   pdf_is t c = cell_is 2 (omega arith) (omega arith) ((t * u.columns + c) * 2 + 1) t c (omega arith)
 
-  accepted : All (Acceptable u (facts p).clock) rs
+  accepted : AllByRecursion (Acceptable u (facts p).clock) rs
   accepted = all_standing u (Acceptable u (facts p).clock) (facts p).accepted stands.kept.accepted_are
 
   -- a report that sums up the cells counts the requests

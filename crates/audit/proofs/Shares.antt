@@ -1,12 +1,12 @@
 -- Counts that are parted: what each element adds to one of several counts, it adds to the count of all.
 use Rattle.std.proofs.Common.{◌≡◌, ℕ, zero, suc, ◌+◌, ◌<◌, ◌≤◌, Bool, true, false, cond, ◌&&◌, eqb, List, [], ◌∷◌, length, sum_by, sum, count_by, sym, refl, ap, ◌∙◌, ⊎_elim, arith}
-use Rattle.std.specs.List.{range_with_len, AllByRecursion as All}
+use Rattle.std.specs.List.{range_with_len, AllByRecursion}
 use Rattle.std.proofs.lemmas.List.Sums.{length-filter, sum-map, sum_by-cons}
 use Rattle.std.proofs.lemmas.Bool.{cases_eq, eq-eqb, ne_eqb}
 use Rattle.runs.proofs.Filters.{kept_all}
 use Rattle.reports.proofs.Sums.{map_counting_same, sum_by_plus, sum_by_swap}
 
-sum_by_all : {X : Type 0} (f g : X → ℕ) (xs : List X) → All (λ x. f x ≡ g x) xs → sum_by f xs ≡ sum_by g xs
+sum_by_all : {X : Type 0} (f g : X → ℕ) (xs : List X) → AllByRecursion (λ x. f x ≡ g x) xs → sum_by f xs ≡ sum_by g xs
 sum_by_all f g [] h = refl
 sum_by_all f g (x ∷ xs) h =
     let a = sum_by-cons f x xs in
@@ -60,11 +60,11 @@ either true true f l h =
 
 -- counts into which the count by p is parted: m of them, or two
 module _ {X : Type 0} (p : X → Bool) (xs : List X) where
-  pub parted : (f : ℕ → X → Bool) (m : ℕ) → All (λ x. sum_by (λ k. cond (f k x) 1 0) (range_with_len 0 m) ≡ cond (p x) 1 0) xs → sum_by (λ k. count_by (f k) xs) (range_with_len 0 m) ≡ count_by p xs
+  pub parted : (f : ℕ → X → Bool) (m : ℕ) → AllByRecursion (λ x. sum_by (λ k. cond (f k x) 1 0) (range_with_len 0 m) ≡ cond (p x) 1 0) xs → sum_by (λ k. count_by (f k) xs) (range_with_len 0 m) ≡ count_by p xs
   parted f m h =
       sum_by_swap (λ k x. cond (f k x) 1 0) (range_with_len 0 m) xs ∙ sum_by_all (λ x. sum_by (λ k. cond (f k x) 1 0) (range_with_len 0 m)) (λ x. cond (p x) 1 0) xs h
 
-  pub halved : (f g : X → Bool) → All (λ x. cond (f x) 1 0 + cond (g x) 1 0 ≡ cond (p x) 1 0) xs → count_by f xs + count_by g xs ≡ count_by p xs
+  pub halved : (f g : X → Bool) → AllByRecursion (λ x. cond (f x) 1 0 + cond (g x) 1 0 ≡ cond (p x) 1 0) xs → count_by f xs + count_by g xs ≡ count_by p xs
   halved f g h =
       sym (sum_by_plus (λ x. cond (f x) 1 0) (λ x. cond (g x) 1 0) xs) ∙ sum_by_all (λ x. cond (f x) 1 0 + cond (g x) 1 0) (λ x. cond (p x) 1 0) xs h
 

@@ -1,6 +1,6 @@
 -- The lines of a report, as sums of cells.
 use Rattle.std.proofs.Common.{◌≡◌, ℕ, ◌+◌, ◌<◌, ◌≤◌, Bool, true, false, eqb, leb, List, [], ◌∷◌, length, get_or, is_ok, Some, None, sum_by, sum, Option, Result, sym, refl, ap, ◌∙◌, subst, arith}
-use Rattle.std.specs.List.{range_with_len, AllByRecursion as All}
+use Rattle.std.specs.List.{range_with_len, AllByRecursion}
 use Rattle.std.proofs.lemmas.List.FromFn.{get_or-map-range_with_len}
 use Rattle.std.proofs.lemmas.List.Sums.{sum-map}
 use Rattle.std.proofs.lemmas.Bool.{eqb-true, leb-true}
@@ -46,7 +46,7 @@ module _ (cells : List ℕ) (n : ℕ) (es : List Entry) where
   })
 
 -- where none is the first ground, there is none
-no_grounds : (gs : List (Option WriteRefusal)) → first_ground gs ≡ None → All (λ g. g ≡ None) gs
+no_grounds : (gs : List (Option WriteRefusal)) → first_ground gs ≡ None → AllByRecursion (λ g. g ≡ None) gs
 no_grounds [] e = tt
 no_grounds (None ∷ gs) e = (refl, no_grounds gs e)
 no_grounds (Some g ∷ gs) e = let z : ◌≡◌ {A = ℕ} 0 1 = cc in absurd (omega arith)

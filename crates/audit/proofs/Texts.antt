@@ -3,7 +3,7 @@ use Rattle.std.proofs.Common.{◌≡◌, ℕ, ◌+◌, ◌≤◌, Bool, true, fa
 use Rattle.std.proofs.lemmas.List.FromFn.{fill_by_all}
 use Rattle.std.proofs.lemmas.List.{length-map, take_at}
 use Rattle.std.proofs.lemmas.List.Sums.{sum-map, sum_by-cons}
-use Rattle.std.specs.List.{range_with_len, AllByRecursion as All}
+use Rattle.std.specs.List.{range_with_len, AllByRecursion}
 use Rattle.columns.specs.Layouts as layouts
 use Rattle.columns.specs.Layouts.{Layout}
 use Rattle.cells.proofs.Granted.{no_ok, ok_same}
@@ -25,7 +25,7 @@ use Rattle.audit.proofs.Sheets.{buffer_holds, written_counted}
 by_columns : (n : ℕ) (xs : List ℕ) → length xs ≡ n → sum_by (λ c. get_or xs c 0) (range_with_len 0 n) ≡ sum xs
 by_columns n xs e = sym (sum-map (λ c. get_or xs c 0) (range_with_len 0 n)) ∙ ap sum (sym (fill_by_all (λ c. get_or xs c 0) xs n 0 e (λ k h. refl)))
 
-each_line : (n : ℕ) (ls : List Line) → All (λ l. length l.usage.columns ≡ n) ls → sum_by (λ (l : Line). sum_by (λ c. get_or l.usage.columns c 0) (range_with_len 0 n)) ls ≡ sum_by (λ (l : Line). sum l.usage.columns) ls
+each_line : (n : ℕ) (ls : List Line) → AllByRecursion (λ l. length l.usage.columns ≡ n) ls → sum_by (λ (l : Line). sum_by (λ c. get_or l.usage.columns c 0) (range_with_len 0 n)) ls ≡ sum_by (λ (l : Line). sum l.usage.columns) ls
 each_line n [] fits = refl
 each_line n (l ∷ ls) fits =
     sum_by-cons (λ (l : Line). sum_by (λ c. get_or l.usage.columns c 0) (range_with_len 0 n)) l ls
@@ -33,7 +33,7 @@ each_line n (l ∷ ls) fits =
     ∙ sym (sum_by-cons (λ (l : Line). sum l.usage.columns) l ls)
 
 -- the total of a report, summed title by title
-pub total_by_titles : (n : ℕ) (ls : List Line) → All (λ l. length l.usage.columns ≡ n) ls → total n ls ≡ sum_by (λ (l : Line). sum l.usage.columns) ls
+pub total_by_titles : (n : ℕ) (ls : List Line) → AllByRecursion (λ l. length l.usage.columns ≡ n) ls → total n ls ≡ sum_by (λ (l : Line). sum l.usage.columns) ls
 total_by_titles n ls fits =
     sum-map (column_sum ls) (range_with_len 0 n)
     ∙ sym (sum_by_swap (λ (l : Line) c. get_or l.usage.columns c 0) ls (range_with_len 0 n))
@@ -44,7 +44,7 @@ rows_sum [] = refl
 rows_sum (r ∷ rows) =
     sum_by-cons (λ (l : Line). sum l.usage.columns) (line_of r) (map line_of rows) ∙ ap (λ n. sum r.usage.columns + n) (rows_sum rows) ∙ sym (sum_by-cons (λ (r : Row). sum r.usage.columns) r rows)
 
-lines_fit : (l : Layout) (rows : List Row) → EachFits l rows → All (λ (x : Line). length x.usage.columns ≡ column_count l) (map line_of rows)
+lines_fit : (l : Layout) (rows : List Row) → EachFits l rows → AllByRecursion (λ (x : Line). length x.usage.columns ≡ column_count l) (map line_of rows)
 lines_fit l [] fits = tt
 lines_fit l (r ∷ rows) fits = (fits.0.columns, lines_fit l rows fits.1)
 

@@ -5,7 +5,7 @@ use Rattle.std.proofs.lemmas.Slice.Eq.{bytes_eq-Decides}
 use Rattle.std.proofs.lemmas.Bool.{and_parts, cond-true, eq-eqb, false≢true, ne_eqb}
 use Rattle.std.proofs.lemmas.Bool.Decides.{nat_tests}
 use Rattle.std.specs.Char.{is_ascii_digit}
-use Rattle.std.specs.List.{AllByRecursion as All}
+use Rattle.std.specs.List.{AllByRecursion}
 use Rattle.std.specs.Str.{all_ascii_digits, bytes_eq}
 use Rattle.texts.specs.Texts.{all_fit, fit, is_text}
 use Rattle.titles.specs.declared.issn.Issn.{Issn}
@@ -51,7 +51,7 @@ module _ {A : Type 0} (judge : List ℕ → Result A Cause) (body : List ℕ) (v
       ∙ ap (λ t. and_then (cond t (Ok tt) (Err (new_fault p.line (p.column + 1) WrongCellCount))) (λ _. Ok (v, behind last p rest))) (flag_self last)
 
 -- what each kind of cell holds is clean
-high_clean : (bs : List ℕ) → All (λ b. 44 < b) bs → Clean bs
+high_clean : (bs : List ℕ) → AllByRecursion (λ b. 44 < b) bs → Clean bs
 high_clean [] high = tt
 high_clean (b ∷ bs) high =
     let this = high.0 in
@@ -93,7 +93,7 @@ date_clean y m d =
 digit_high : (b : ℕ) → is_ascii_digit b ≡ true → 44 < b
 digit_high b e = grind (arith, nat_tests)
 
-digits_high : (bs : List ℕ) → all_ascii_digits bs ≡ true → All (λ b. 44 < b) bs
+digits_high : (bs : List ℕ) → all_ascii_digits bs ≡ true → AllByRecursion (λ b. 44 < b) bs
 digits_high [] e = tt
 digits_high (b ∷ bs) e =
     let both = and_parts (is_ascii_digit b) (all_ascii_digits bs) e in

@@ -5,7 +5,7 @@ use Rattle.std.proofs.lemmas.Slice.Eq.{bytes_eq-Decides, text_from_reads}
 use Rattle.std.proofs.lemmas.Bool.{and_from, and_parts, cases_Bool, cond_both, cond-false, cond-true, leb-true}
 use Rattle.std.proofs.lemmas.Bool.Decides.{nat_tests}
 use Rattle.std.specs.Char.{is_ascii_digit}
-use Rattle.std.specs.List.{AllByRecursion as All}
+use Rattle.std.specs.List.{AllByRecursion}
 use Rattle.std.specs.Str.{bytes_eq}
 use Rattle.columns.specs.Calendar.{days_in, digits, is_date, leap, lengths}
 use Rattle.reports.specs.declared.header.Date.{Date}
@@ -41,7 +41,7 @@ module _ (y m d : ℕ) (real : is_date y m d ≡ true) where
   day_known : d ≤ 31
   day_known =
       let known = month_known in
-      let each : All (λ n. n ≤ 31) lengths = (omega arith, (omega arith, (omega arith, (omega arith, (omega arith, (omega arith, (omega arith, (omega arith, (omega arith, (omega arith, (omega arith, (omega arith, tt)))))))))))) in
+      let each : AllByRecursion (λ n. n ≤ 31) lengths = (omega arith, (omega arith, (omega arith, (omega arith, (omega arith, (omega arith, (omega arith, (omega arith, (omega arith, (omega arith, (omega arith, (omega arith, tt)))))))))))) in
       let common : get_or lengths (m - 1) 0 ≤ 31 = All-get_or (λ n. n ≤ 31) lengths (m - 1) 0 (omega arith) each in
       let longest : days_in y (m - 1) ≤ 31 = cond_both (eqb (m - 1) 1 && leap y) 29 (get_or lengths (m - 1) 0) (λ n. n ≤ 31) (λ _. omega arith) (λ _. common) in
       let low = leb-true d (days_in y (m - 1)) (and_parts (leb 1 d) (leb d (days_in y (m - 1))) behind_year.1).1 in

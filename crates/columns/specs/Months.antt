@@ -4,7 +4,7 @@ use Rattle.std.proofs.Common.{sym, ap, ◌∙◌, arith}
 use Rattle.std.proofs.ByRecursion.{All-get_or}
 use Rattle.std.proofs.lemmas.List.{length-map, length-take-le, get_or-map, get_or-take}
 use Rattle.std.proofs.lemmas.Bool.Decides.{nat_tests}
-use Rattle.std.specs.List.{AllByRecursion as All}
+use Rattle.std.specs.List.{AllByRecursion}
 use Rattle.texts.specs.Texts.{fit, all_fit, is_text}
 use Rattle.columns.specs.Calendar.{digits, names}
 use Rattle.columns.specs.Layouts.{Sound, month_heading, month_layout}
@@ -54,7 +54,7 @@ module _ (y n : ℕ) (few : n ≤ 12) where
   pub month_at : (k : ℕ) → k < n → slice_index_or headings k [] ≡ month_heading y (slice_index_or names k [])
   month_at k l = get_or-map (month_heading y) (take n names) k [] [] (rw length-take-le l) ∙ ap (month_heading y) (get_or-take n names k [] l)
 
-  month_texts : All (λ name. is_text (month_heading y name) ≡ true) names
+  month_texts : AllByRecursion (λ name. is_text (month_heading y name) ≡ true) names
   month_texts = let t = fit_digits y in (t, (t, (t, (t, (t, (t, (t, (t, (t, (t, (t, (t, tt))))))))))))
 
   pub month_sound : 1 ≤ n → Sound (month_layout y n)

@@ -3,7 +3,7 @@ use Rattle.std.proofs.Common.{◌≡◌, ℕ, ◌+◌, ◌*◌, Bool, true, fals
 use Rattle.std.proofs.ByRecursion.{All-append}
 use Rattle.std.proofs.lemmas.List.{drop_at, drop-drop, length-map}
 use Rattle.std.proofs.lemmas.Bool.{and_parts, eq-eqb, false≢true, le-leb}
-use Rattle.std.specs.List.{flat_map, list_all, AllByRecursion as All}
+use Rattle.std.specs.List.{flat_map, list_all, AllByRecursion}
 use Rattle.columns.specs.Layouts as layouts
 use Rattle.columns.specs.Layouts.{Layout}
 use Rattle.titles.proofs.Fitness.{read_text_lem}
@@ -56,7 +56,7 @@ abbrev placed_line : Row → Line
 placed_line r = line_with r.entry (usage_in (formats r))
 
 module _ (ytd : Bool) (n : ℕ) where
-  no_title : (t : ℕ) (rows : List Row) → All (GoodRow ytd n) rows → titles_ground t (entries rows) ≡ None
+  no_title : (t : ℕ) (rows : List Row) → AllByRecursion (GoodRow ytd n) rows → titles_ground t (entries rows) ≡ None
   no_title t [] good = refl
   no_title t (r ∷ rows) good =
       ap (λ x. title_ground t x (titles_ground (t + 1) (entries rows))) (fine_entry r.entry good.0.0) ∙ no_title (t + 1) rows good.1
@@ -64,7 +64,7 @@ module _ (ytd : Bool) (n : ℕ) where
   length_formats : (r : Row) → GoodRow ytd n r → length (formats r) ≡ n
   length_formats r good = length_placed r.usage.html r.usage.columns ∙ good.1.0
 
-  length_table : (rows : List Row) → All (GoodRow ytd n) rows → length (flat_map formats rows) ≡ length rows * n
+  length_table : (rows : List Row) → AllByRecursion (GoodRow ytd n) rows → length (flat_map formats rows) ≡ length rows * n
   length_table [] good = omega arith
   length_table (r ∷ rows) good =
       let here = length_formats r good.0 in
@@ -73,7 +73,7 @@ module _ (ytd : Bool) (n : ℕ) where
       let more = suc-mul (length rows) n in
       omega arith
 
-  small_table : (rows : List Row) → All (GoodRow ytd n) rows → All Small (flat_map formats rows)
+  small_table : (rows : List Row) → AllByRecursion (GoodRow ytd n) rows → AllByRecursion Small (flat_map formats rows)
   small_table [] good = tt
   small_table (r ∷ rows) good =
       let u = r.usage in
@@ -81,7 +81,7 @@ module _ (ytd : Bool) (n : ℕ) where
       All-append Small (formats r) (flat_map formats rows) (small_placed u.html u.columns low.0) (small_table rows good.1)
 
   -- the lines of the table, from title t on
-  lines_placed : (fs : List Formats) (t : ℕ) (rows : List Row) → All (GoodRow ytd n) rows → drop (t * n) fs ≡ flat_map formats rows → lines_from (flat_map pair fs) n t (entries rows) ≡ map placed_line rows
+  lines_placed : (fs : List Formats) (t : ℕ) (rows : List Row) → AllByRecursion (GoodRow ytd n) rows → drop (t * n) fs ≡ flat_map formats rows → lines_from (flat_map pair fs) n t (entries rows) ≡ map placed_line rows
   lines_placed fs t [] good stands = refl
   lines_placed fs t (r ∷ rows) good stands =
       let long = length_formats r good.0 in
@@ -92,7 +92,7 @@ module _ (ytd : Bool) (n : ℕ) where
       λ i. line_with r.entry (here i) ∷ lines_placed fs (t + 1) rows good.1 rest i
 
 -- so far as they are shown, they are those of the report
-shown_placed : (ytd : Bool) (n : ℕ) (rows : List Row) → All (GoodRow ytd n) rows → shown_lines ytd (map placed_line rows) ≡ map line_of rows
+shown_placed : (ytd : Bool) (n : ℕ) (rows : List Row) → AllByRecursion (GoodRow ytd n) rows → shown_lines ytd (map placed_line rows) ≡ map line_of rows
 shown_placed true n [] good = refl
 shown_placed true n (r ∷ rows) good =
     let u = r.usage in
@@ -117,7 +117,7 @@ module _ (l : Layout) (r : Report) (sound : SoundReport l r) where
   abbrev subject : Subject
   subject = record { layout = l; titles = length r.lines; cells = flat_map pair table; entries = entries rows; head = r.head }
 
-  good : All (GoodRow l.ytd (column_count l)) rows
+  good : AllByRecursion (GoodRow l.ytd (column_count l)) rows
   good =
       let sums = shown_numbers l.ytd (totals (column_count l) r.lines) in
       let low = and_parts (list_all is_low sums) (list_all is_low (shown_in l.ytd r.lines)) (sym (all_pass_append is_low sums (shown_in l.ytd r.lines)) ∙ sound.low) in

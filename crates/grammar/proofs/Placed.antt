@@ -6,7 +6,7 @@ use Rattle.std.proofs.lemmas.List.FromFn.{fill_by_all}
 use Rattle.std.proofs.lemmas.List.{get_or_append_left, get_or-drop}
 use Rattle.std.proofs.lemmas.List.Sums.{sum-map, sum_by-cons}
 use Rattle.std.proofs.lemmas.Bool.{and_parts, leb-true}
-use Rattle.std.specs.List.{range_with_len, flat_map, list_all, AllByRecursion as All}
+use Rattle.std.specs.List.{range_with_len, flat_map, list_all, AllByRecursion}
 use Rattle.reports.specs.Reports.{Usage, is_low}
 use Rattle.reports.specs.Tables.{html_at, pdf_at, usage_by}
 
@@ -66,14 +66,14 @@ abbrev pub Small : Formats → Type 0
 Small f = (f.html < 2 ^ 32) × (f.pdf < 2 ^ 32)
 
 -- a number that may be shown fits a cell
-pub small_placed : (h : ℕ) (cs : List ℕ) → list_all is_low cs ≡ true → All Small (placed h cs)
+pub small_placed : (h : ℕ) (cs : List ℕ) → list_all is_low cs ≡ true → AllByRecursion Small (placed h cs)
 small_placed h [] low = tt
 small_placed h (c ∷ cs) low =
     let both = and_parts (is_low c) (list_all is_low cs) low in
     let here = leb-true c 1000000000 both.0 in
     ((omega arith, omega arith), small_placed (h - c) cs both.1)
 
-pub small_cells : (fs : List Formats) → All Small fs → All (λ c. c < 2 ^ 32) (flat_map pair fs)
+pub small_cells : (fs : List Formats) → AllByRecursion Small fs → AllByRecursion (λ c. c < 2 ^ 32) (flat_map pair fs)
 small_cells [] small = tt
 small_cells (f ∷ fs) small = (small.0.0, (small.0.1, small_cells fs small.1))
 

@@ -1,7 +1,7 @@
 -- The titles' lines to the end of the file, as rows and as lines of a report.
 use Rattle.std.proofs.Common.{◌≡◌, ℕ, zero, suc, ◌≤◌, Bool, true, false, cond, ◌&&◌, List, [], ◌∷◌, ◌++◌, map, length, Some, None, Ok, decimal, Option, sym, refl, ap, ◌∙◌, subst, arith}
 use Rattle.std.proofs.lemmas.Bool.{and_parts, false≢true, or_right, true≢false}
-use Rattle.std.specs.List.{flat_map, list_all, AllByRecursion as All}
+use Rattle.std.specs.List.{flat_map, list_all, AllByRecursion}
 use Rattle.columns.specs.Layouts.{Layout}
 use Rattle.titles.specs.declared.issn.Issn.{Issn}
 use Rattle.titles.specs.Issns.{is_issn}
@@ -47,7 +47,7 @@ module _ (l : Layout) (platform : List ℕ) (some : 1 ≤ column_count l) (clean
 
   -- so many rows at most, good ones, and no byte behind them
   abbrev pub GoodRows : ℕ → Place → List Row → Type 0
-  GoodRows room p rows = (1 ≤ length rows) × (length rows ≤ room) × All (GoodRow l.ytd (column_count l)) rows × (p.rest ≡ flat_map (row_text l.ytd platform) rows)
+  GoodRows room p rows = (1 ≤ length rows) × (length rows ≤ room) × AllByRecursion (GoodRow l.ytd (column_count l)) rows × (p.rest ≡ flat_map (row_text l.ytd platform) rows)
 
   rows_on : (b : Bool) (room : ℕ) (more : (q : Place) (rows : List Row) → rows_at room l platform q ≡ Ok rows → GoodRows room q rows) (p q : Place) (r : Row) (rows : List Row) → is_nil q.rest ≡ b → GoodRow l.ytd (column_count l) r → p.rest ≡ row_text l.ytd platform r ++ q.rest → cond b (Ok (r ∷ [])) (and_then (rows_at room l platform q) (λ rows. Ok (r ∷ rows))) ≡ Ok rows → GoodRows (suc room) p rows
   rows_on true room more p q r rows end good text h =
@@ -65,7 +65,7 @@ module _ (l : Layout) (platform : List ℕ) (some : 1 ≤ column_count l) (clean
       let s = row_spells.sound p a.0 a.1 in
       rows_on (is_nil a.0.1.rest) room (rows_sound room) p a.0.1 a.0.0 rows refl s.1 s.2 a.2
 
-  pub rows_complete : (room : ℕ) (p : Place) (r : Row) (rows : List Row) → length rows ≤ room → All (GoodRow l.ytd (column_count l)) (r ∷ rows) → p.rest ≡ flat_map (row_text l.ytd platform) (r ∷ rows) → rows_at (suc room) l platform p ≡ Ok (r ∷ rows)
+  pub rows_complete : (room : ℕ) (p : Place) (r : Row) (rows : List Row) → length rows ≤ room → AllByRecursion (GoodRow l.ytd (column_count l)) (r ∷ rows) → p.rest ≡ flat_map (row_text l.ytd platform) (r ∷ rows) → rows_at (suc room) l platform p ≡ Ok (r ∷ rows)
   rows_complete room p r [] most good e =
       let a = row_spells.complete r p [] tt good.0 e in
       ap (λ x. and_then x (λ x. cond (is_nil x.1.rest) (Ok (x.0 ∷ [])) (and_then (rows_at room l platform x.1) (λ rows. Ok (x.0 ∷ rows))))) a.1
@@ -121,18 +121,18 @@ module _ (ytd : Bool) where
     sound_line e u good long year =
         record { name = good.0; publisher = good.1; print = right_issn e.print good.2; online = right_issn e.online good.3; columns = long; year = year }
 
-    pub sound_lines : (rows : List Row) → All (GoodRow ytd n) rows → All (SoundLine ytd n) (map line_of rows)
+    pub sound_lines : (rows : List Row) → AllByRecursion (GoodRow ytd n) rows → AllByRecursion (SoundLine ytd n) (map line_of rows)
     sound_lines [] good = tt
     sound_lines (r ∷ rows) good =
         let u = good.0.1 in
         (sound_line r.entry r.usage good.0.0 u.0 u.1, sound_lines rows good.1)
 
-    pub low_lines : (rows : List Row) → All (GoodRow ytd n) rows → list_all is_low (shown_in (map line_of rows)) ≡ true
+    pub low_lines : (rows : List Row) → AllByRecursion (GoodRow ytd n) rows → list_all is_low (shown_in (map line_of rows)) ≡ true
     low_lines [] good = refl
     low_lines (r ∷ rows) good =
         all_pass_append is_low (shown_numbers ytd r.usage) (shown_in (map line_of rows)) ∙ (λ i. good.0.1.2 i && low_lines rows good.1 i)
 
-    pub good_rows : (ls : List Line) → All (SoundLine ytd n) ls → list_all is_low (shown_in ls) ≡ true → All (GoodRow ytd n) (map row_of ls)
+    pub good_rows : (ls : List Line) → AllByRecursion (SoundLine ytd n) ls → list_all is_low (shown_in ls) ≡ true → AllByRecursion (GoodRow ytd n) (map row_of ls)
     good_rows [] sound low = tt
     good_rows (l ∷ ls) sound low =
         let s = sound.0 in

@@ -3,7 +3,7 @@ use Rattle.std.proofs.Common.{◌≡◌, ℕ, ◌+◌, Bool, true, false, cond, 
 use Rattle.std.proofs.lemmas.List.FromFn.{length-map-range_with_len}
 use Rattle.std.proofs.lemmas.Slice.Eq.{bytes_eq-Decides}
 use Rattle.std.proofs.lemmas.Bool.{cond-true, eq-eqb, eqb-true}
-use Rattle.std.specs.List.{list_all, AllByRecursion as All}
+use Rattle.std.specs.List.{list_all, AllByRecursion}
 use Rattle.std.specs.Str.{bytes_eq}
 use Rattle.texts.specs.Texts.{is_text}
 use Rattle.columns.specs.Layouts.{Layout}
@@ -61,7 +61,7 @@ blank_or : (t : Bool) (p : List ℕ) → is_text p ≡ true → (cond t p [] ≡
 blank_or true p text = inr text
 blank_or false p text = inl refl
 
-pub publisher_good : (ytd : Bool) (n : ℕ) (ls : List Line) → All (SoundLine ytd n) ls → (shared_publisher ls ≡ []) ⊎ (is_text (shared_publisher ls) ≡ true)
+pub publisher_good : (ytd : Bool) (n : ℕ) (ls : List Line) → AllByRecursion (SoundLine ytd n) ls → (shared_publisher ls ≡ []) ⊎ (is_text (shared_publisher ls) ≡ true)
 publisher_good ytd n [] sound = inl refl
 publisher_good ytd n (l ∷ ls) sound =
     blank_or (list_all (bytes_eq l.publisher) (map (λ (l : Line). l.publisher) ls)) l.publisher sound.0.publisher

@@ -1,7 +1,7 @@
 -- Lines 1 to 6: what stands above the titles.
 use Rattle.std.proofs.Common.{◌≡◌, ℕ, ◌≤◌, Bool, true, false, ◌⊎◌, List, [], ◌∷◌, ◌++◌, map, codes, decimal, refl, ap, ◌∙◌, append_assoc, append-nil, arith}
 use Rattle.std.proofs.ByRecursion.{All-append, All-from_get_or, All-weaker}
-use Rattle.std.specs.List.{AllByRecursion as All}
+use Rattle.std.specs.List.{AllByRecursion}
 use Rattle.texts.specs.Texts.{is_text}
 use Rattle.columns.specs.Calendar.{is_date}
 use Rattle.columns.specs.Layouts as layouts
@@ -37,11 +37,11 @@ occasion_spell =
     (follow (λ (o : Occasion). o.criteria) (text_cell true) (λ c good. follow (λ o. tt) (word_cell (codes "Date run:") true (text_clean (codes "Date run:") refl)) (λ w good. follow (λ o. o.date) (date_cell true) (λ d good. give (record { criteria = c; date = d }) (refl, (refl, (refl, tt))) (λ o k i. record { criteria = k.1.1.0 i; date = k.0 i })))))
 
 -- line 5
-ytd_clean : (ytd : Bool) → All Clean (ytd_headings ytd)
+ytd_clean : (ytd : Bool) → AllByRecursion Clean (ytd_headings ytd)
 ytd_clean true = (text_clean (codes "YTD Total") refl, (text_clean (codes "YTD HTML") refl, (text_clean (codes "YTD PDF") refl, tt)))
 ytd_clean false = tt
 
-headings_clean : (l : Layout) → layouts.Sound l → All Clean (heading_words l)
+headings_clean : (l : Layout) → layouts.Sound l → AllByRecursion Clean (heading_words l)
 headings_clean l sound =
     let own = All-weaker (λ t. is_text t ≡ true) Clean text_clean l.headings (All-from_get_or (λ t. is_text t ≡ true) l.headings [] sound.texts) in
     (tt, (text_clean (codes "Publisher") refl, (text_clean (codes "Platform") refl, (text_clean (codes "Print ISSN") refl, (text_clean (codes "Online ISSN") refl, All-append Clean l.headings (ytd_headings l.ytd) own (ytd_clean l.ytd))))))

@@ -1,7 +1,7 @@
 -- What the writer writes is a sound report, so it is read.
 use Rattle.std.proofs.Common.{◌≡◌, ℕ, ◌+◌, ◌≤◌, Bool, true, false, List, [], ◌∷◌, map, length, is_ok, Some, None, Ok, Err, Option, Result, sym, refl, ap, ◌∙◌, arith}
 use Rattle.std.proofs.lemmas.List.FromFn.{length-map-range_with_len}
-use Rattle.std.specs.List.{range_with_len, list_all, AllByRecursion as All}
+use Rattle.std.specs.List.{range_with_len, list_all, AllByRecursion}
 use Rattle.titles.proofs.Fitness.{read_text_lem}
 use Rattle.titles.specs.declared.issn.Issn.{Issn}
 use Rattle.titles.specs.declared.issn.IssnFault.{IssnFault}
@@ -26,7 +26,7 @@ use Rattle.grammar.proofs.Shows.{length_shown, numbers_shown, shows_no_more}
 use Rattle.grammar.proofs.Titles.{GoodEntry}
 
 -- no ground at all, where there is no first one
-no_grounds : (gs : List (Option WriteRefusal)) → first_ground gs ≡ None → All (λ g. g ≡ None) gs
+no_grounds : (gs : List (Option WriteRefusal)) → first_ground gs ≡ None → AllByRecursion (λ g. g ≡ None) gs
 no_grounds [] h = tt
 no_grounds (None ∷ gs) h = (refl, no_grounds gs h)
 no_grounds (Some g ∷ gs) h = let z : ◌≡◌ {A = ℕ} 0 1 = cc in absurd (omega arith)
@@ -63,7 +63,7 @@ title_fine : (t : ℕ) (e : Entry) (r : Result Entry TitleFault) (rest : Option 
 title_fine t e (Ok x) rest is h = (judged e x is, h)
 title_fine t e (Err fault) rest is h = let z : ◌≡◌ {A = ℕ} 0 1 = cc in absurd (omega arith)
 
-titles_fine : (t : ℕ) (es : List Entry) → titles_ground t es ≡ None → All GoodEntry es
+titles_fine : (t : ℕ) (es : List Entry) → titles_ground t es ≡ None → AllByRecursion GoodEntry es
 titles_fine t [] h = tt
 titles_fine t (e ∷ es) h =
     let f = title_fine t e (judge e) (titles_ground (t + 1) es) refl h in
@@ -77,7 +77,7 @@ module _ (cells : List ℕ) (n : ℕ) where
   abbrev usage_of : ℕ → Usage
   usage_of t = usage_by (html_at cells n t) (pdf_at cells n t) n
 
-  written_lines : (ytd : Bool) (t : ℕ) (es : List Entry) → All GoodEntry es → All (SoundLine ytd n) (shown_lines ytd (lines_from cells n t es))
+  written_lines : (ytd : Bool) (t : ℕ) (es : List Entry) → AllByRecursion GoodEntry es → AllByRecursion (SoundLine ytd n) (shown_lines ytd (lines_from cells n t es))
   written_lines true t [] good = tt
   written_lines true t (e ∷ es) good =
       (sound_line true n e (usage_of t) good.0 (long t) (balance (html_at cells n t) (pdf_at cells n t) n), written_lines true (t + 1) es good.1)

@@ -1,6 +1,6 @@
 -- Which files the writer gives, and that the files that are read are just those.
 use Rattle.std.specs.Prelude.{◌≡◌, ℕ, ◌^◌, ◌<◌, ◌≤◌, List, length, is_ok, Ok, Decides}
-use Rattle.std.specs.List.{AllByRecursion as All}
+use Rattle.std.specs.List.{AllByRecursion}
 use Rattle.columns.specs.Layouts as layouts
 use Rattle.columns.specs.Layouts.{Layout}
 use Rattle.reports.specs.Answers.{Subject, answer, text_about}
@@ -16,7 +16,7 @@ pub record Given (l : Layout) (file : List ℕ) : Type 0 where
   pub most : length subject.entries ≤ 512
   pub count : length subject.entries ≡ subject.titles
   -- a cell of the count table is a number of 32 bits
-  pub cells : All (λ c. c < 2 ^ 32) subject.cells
+  pub cells : AllByRecursion (λ c. c < 2 ^ 32) subject.cells
   -- a buffer just as long as the file is written full, and what is written is the file
   pub granted : answer subject (length file) ≡ Ok (length file)
   pub text : text_about subject ≡ file

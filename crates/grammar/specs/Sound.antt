@@ -1,6 +1,6 @@
 -- Which reports there are, and that the files read are just their texts.
 use Rattle.std.specs.Prelude.{◌≡◌, ℕ, ◌+◌, ◌≤◌, Bool, true, false, ◌||◌, List, length, Ok, sum}
-use Rattle.std.specs.List.{list_all, AllByRecursion as All}
+use Rattle.std.specs.List.{list_all, AllByRecursion}
 use Rattle.texts.specs.Texts.{is_text}
 use Rattle.columns.specs.Calendar.{is_date}
 use Rattle.columns.specs.Layouts as layouts
@@ -38,7 +38,7 @@ pub record SoundReport (l : Layout) (r : Report) : Type 0 where
   pub head : SoundHead r.head
   pub some : 1 ≤ length r.lines
   pub most : length r.lines ≤ 512
-  pub lines : All (SoundLine l.ytd (column_count l)) r.lines
+  pub lines : AllByRecursion (SoundLine l.ytd (column_count l)) r.lines
   pub low : list_all is_low (table_numbers l.ytd (column_count l) r.lines) ≡ true
 
 -- a file is read as a report just where that is a report of the scheme and the file is its text

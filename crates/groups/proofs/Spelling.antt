@@ -3,7 +3,7 @@ use Rattle.std.proofs.Common.{◌≡◌, ℕ, suc, ◌+◌, ◌*◌, ◌/◌, �
 use Rattle.std.proofs.ByRecursion.{All-drop}
 use Rattle.std.proofs.lemmas.List.{append_assoc, length-take-le, take-append-drop}
 use Rattle.std.proofs.lemmas.Bool.{cases_Bool, cond-false, cond-true, leb-true}
-use Rattle.std.specs.List.{AllByRecursion as All}
+use Rattle.std.specs.List.{AllByRecursion}
 use Rattle.groups.specs.Frames.{Frame, choose, counted, frames, frames_after, new_frame}
 use Rattle.groups.specs.Written.{Bytes, placed, written_block, written_row}
 use Rattle.groups.proofs.Dividing.{frames_behind}
@@ -73,7 +73,7 @@ bytes_parted [] rest b = (tt, b)
 bytes_parted (x ∷ p) rest b = let k = bytes_parted p rest b.1 in ((b.0, k.0), k.1)
 
 -- the contents of blocks that were written in bytes are bytes
-pub contents_are_bytes : (row : List (ℕ × List ℕ)) → Bytes (written_row row) → All (λ b. Bytes b.1) row
+pub contents_are_bytes : (row : List (ℕ × List ℕ)) → Bytes (written_row row) → AllByRecursion (λ b. Bytes b.1) row
 contents_are_bytes [] b = tt
 contents_are_bytes (x ∷ row) b = let k = bytes_parted x.1 (written_row row) b.1.1.1 in (k.0, contents_are_bytes row k.1)
 

@@ -1,11 +1,11 @@
 -- How a row of blocks is written.
 use Rattle.std.specs.Prelude.{ℕ, ◌+◌, ◌/◌, ◌%◌, ◌<◌, List, [], ◌∷◌, ◌++◌, length, Some}
-use Rattle.std.specs.List.{AllByRecursion as All}
+use Rattle.std.specs.List.{AllByRecursion}
 use Rattle.groups.specs.Frames.{Frame, new_frame}
 
 -- each number is one of a byte, as every one in a slice of bytes is
 abbrev pub Bytes : List ℕ → Type 0
-Bytes bs = All (λ b. b < 256) bs
+Bytes bs = AllByRecursion (λ b. b < 256) bs
 
 -- a tag, the number of the bytes in two bytes, the first counting most, and the bytes
 abbrev pub written_block : ℕ → List ℕ → List ℕ

@@ -1,7 +1,7 @@
 -- A list is right exactly where it spells entries.
 use Rattle.std.proofs.Common.{◌≡◌, ℕ, ◌+◌, ◌<◌, ◌≤◌, Bool, true, false, cond, eqb, leb, List, [], ◌∷◌, map, length, Some, None, Ok, Err, Option, Result, sym, refl, ap, ◌∙◌, subst, arith}
 use Rattle.std.proofs.lemmas.Bool.{cond-false, eqb-true, leb-false, lt-leb}
-use Rattle.std.specs.List.{AllByRecursion as All}
+use Rattle.std.specs.List.{AllByRecursion}
 use Rattle.groups.specs.Frames.{Frame, bytes_of, choose, frames}
 use Rattle.groups.specs.Written.{Bytes, placed}
 use Rattle.groups.proofs.Spelling.{contents_are_bytes, row_spelled}
@@ -55,9 +55,9 @@ grouped n f e r = grouped_by n f e (leb 512 n) (eqb f.tag 48) f.contents refl re
 -- what is known of blocks that are entries and nothing else
 record Said (n : ℕ) (fs : List Frame) (es : List Entry) : Type 0 where
   parts : List (List ℕ)
-  whole : All Whole fs
+  whole : AllByRecursion Whole fs
   groups : map pair_of fs ≡ map group_of parts
-  spell : All Bytes parts → SpellAll parts es
+  spell : AllByRecursion Bytes parts → SpellAll parts es
   few : n ≤ 512 → n + length es ≤ 512
 
 said_first : (n : ℕ) (f : Frame) (fs : List Frame) (es : List Entry) (r : Result Entry ListFault) → read_entry n f ≡ r → ((es : List Entry) → read_entries (n + 1) fs ≡ Ok es → Said (n + 1) fs es) → before r (read_entries (n + 1) fs) ≡ Ok es → Said n (f ∷ fs) es
@@ -81,7 +81,7 @@ said_all n [] [] e = record { parts = []; whole = tt; groups = refl; spell = λ 
 said_all n [] (x ∷ es) e = let z : ◌≡◌ {A = ℕ} 0 1 = cc in absurd (omega arith)
 said_all n (f ∷ fs) es e = said_first n f fs es (read_entry n f) refl (said_all (n + 1) fs) e
 
-parts_are_bytes : (parts : List (List ℕ)) → All (λ b. Bytes b.1) (map group_of parts) → All Bytes parts
+parts_are_bytes : (parts : List (List ℕ)) → AllByRecursion (λ b. Bytes b.1) (map group_of parts) → AllByRecursion Bytes parts
 parts_are_bytes [] b = tt
 parts_are_bytes (p ∷ parts) b = (b.0, parts_are_bytes parts b.1)
 

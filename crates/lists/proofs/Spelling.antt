@@ -2,7 +2,7 @@
 use Rattle.std.proofs.Common.{◌≡◌, ℕ, zero, suc, ◌<◌, ◌≤◌, true, ◌&&◌, List, [], ◌∷◌, map, Some, None, Ok, Err, Option, Result, sym, refl, ap, ◌∙◌, arith}
 use Rattle.std.proofs.lemmas.List.{append-nil}
 use Rattle.std.proofs.lemmas.Bool.{and_from, and_parts}
-use Rattle.std.specs.List.{AllByRecursion as All}
+use Rattle.std.specs.List.{AllByRecursion}
 use Rattle.groups.specs.Frames.{Frame, bytes_of, choose, frames}
 use Rattle.groups.specs.Written.{Bytes, placed}
 use Rattle.groups.proofs.Spelling.{row_spelled}
@@ -71,7 +71,7 @@ spelled_group n place p e s =
 
 -- what is known of fields that are read as an entry
 record Clear (last : ℕ) (known : Known) (fs : List Frame) (e : Entry) : Type 0 where
-  whole : All Whole fs
+  whole : AllByRecursion Whole fs
   proper : Proper last (map pair_of fs)
   says : complete (known_at known fs) ≡ Ok e
 

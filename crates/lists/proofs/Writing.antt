@@ -1,6 +1,6 @@
 -- A list that is written spells the entries that were written.
 use Rattle.std.proofs.Common.{◌≡◌, ◌≤◌, true, List, [], ◌∷◌, map, length, refl, lit<, lit≤}
-use Rattle.std.specs.List.{AllByRecursion as All}
+use Rattle.std.specs.List.{AllByRecursion}
 use Rattle.groups.specs.Written.{written_row}
 use Rattle.titles.specs.Titles.{Entry, is_entry}
 use Rattle.lists.specs.Written.{SpellAll, SpelledList, Spells, fields_of, written_list}
@@ -17,9 +17,9 @@ written_spells e h = record {
   right = h;
 }
 
-all_spell : (es : List Entry) → All (λ e. is_entry e ≡ true) es → SpellAll (map (λ e. written_row (fields_of e)) es) es
+all_spell : (es : List Entry) → AllByRecursion (λ e. is_entry e ≡ true) es → SpellAll (map (λ e. written_row (fields_of e)) es) es
 all_spell [] h = tt
 all_spell (e ∷ es) h = (written_spells e h.0, all_spell es h.1)
 
-pub written_list_lem : (es : List Entry) → All (λ e. is_entry e ≡ true) es → 1 ≤ length es → length es ≤ 512 → SpelledList (written_list es) es
+pub written_list_lem : (es : List Entry) → AllByRecursion (λ e. is_entry e ≡ true) es → 1 ≤ length es → length es ≤ 512 → SpelledList (written_list es) es
 written_list_lem es h some few = record { parts = map (λ e. written_row (fields_of e)) es; bytes = refl; spell = all_spell es h; some = some; few = few }

@@ -1,6 +1,6 @@
 //! A whole list, read into a table.
 ghost use Rattle.std.specs.Prelude.{◌≡◌, ◌<◌, ◌≤◌, true, ◌↔◌, List, length, is_ok, Ok, Err};
-ghost use Rattle.std.specs.List.{AllByRecursion as All};
+ghost use Rattle.std.specs.List.{AllByRecursion};
 ghost use Rattle.titles.specs.Places.{map_ok};
 ghost use Rattle.titles.specs.Titles.{Entry, is_entry};
 ghost use Rattle.lists.specs.declared.fault.ListRefusal.TheVariants.{Broken};
@@ -71,7 +71,7 @@ pub fn read_list<'a>(list: &'a [u8], table: &mut [Title<'a>]) -> Result<usize, L
     ensures broken { RefusedWith 10 result ↔ ((es : List Entry) → SpelledList list.now es → ⊥) }
     ensures told { (fault : ListFault) → (result ≡ Err (Broken fault)) ↔ FaultyList list.now fault }
     ensures short { RefusedWith 11 result ↔ ((es : List Entry) × SpelledList list.now es × (length table.old < length es)) }
-    ensures written { (es : List Entry) → All (λ e. is_entry e ≡ true) es → 1 ≤ length es → length es ≤ 512 → length es ≤ length table.old → list.now ≡ written_list es → (result ≡ Ok (length es)) × Filled es table.old table.new }
+    ensures written { (es : List Entry) → AllByRecursion (λ e. is_entry e ≡ true) es → 1 ≤ length es → length es ≤ 512 → length es ≤ length table.old → list.now ≡ written_list es → (result ≡ Ok (length es)) × Filled es table.old table.new }
 {
     read_into(list, table)
 }

@@ -1,7 +1,7 @@
 -- The tables hold the report that was read.
 use Rattle.std.proofs.Common.{◌≡◌, ℕ, ◌*◌, Bool, true, false, cond, List, [], ◌∷◌, ◌++◌, map, length, take, drop, Ok, Err, Result, sym, refl, ap, ◌∙◌, subst, append_assoc}
 use Rattle.std.proofs.lemmas.List.{drop_at, take_at}
-use Rattle.std.specs.List.{flat_map, AllByRecursion as All}
+use Rattle.std.specs.List.{flat_map, AllByRecursion}
 use Rattle.columns.specs.Layouts.{Layout}
 use Rattle.titles.specs.Titles.{Entry}
 use Rattle.reports.specs.Tables.{line_with}
@@ -28,7 +28,7 @@ usage_held : (ytd : Bool) (r : Row) (rs : List Row) (old : List ℕ) → YearSho
 usage_held true r rs old shown = refl
 usage_held false r rs old shown = let html = sym shown.0 in let pdf = sym shown.1 in (λ i. record { columns = r.usage.columns; html = html i; pdf = pdf i })
 
-lines_held : (ytd : Bool) (n : ℕ) (rows : List Row) (es : List Entry) (numbers old : List ℕ) → All (λ r. Fits ytd n r.usage) rows → held_lines ytd n (length rows) (map (λ r. r.entry) rows ++ es) (flat_map (λ r. r.usage.columns) rows ++ numbers) (years_before ytd rows old) ≡ map line_of rows
+lines_held : (ytd : Bool) (n : ℕ) (rows : List Row) (es : List Entry) (numbers old : List ℕ) → AllByRecursion (λ r. Fits ytd n r.usage) rows → held_lines ytd n (length rows) (map (λ r. r.entry) rows ++ es) (flat_map (λ r. r.usage.columns) rows ++ numbers) (years_before ytd rows old) ≡ map line_of rows
 lines_held ytd n [] es numbers old fits = refl
 lines_held ytd n (r ∷ rs) es numbers old fits =
     let u = r.usage.columns in

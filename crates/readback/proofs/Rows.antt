@@ -1,6 +1,6 @@
 -- What was read of a file, and what the titles' lines then have.
 use Rattle.std.proofs.Common.{◌≡◌, ℕ, zero, suc, ◌≤◌, Bool, true, false, cond, ◌&&◌, eqb, List, [], ◌∷◌, map, length, Ok, sum, sym, refl, ap, ◌∙◌, subst, arith}
-use Rattle.std.specs.List.{AllByRecursion as All}
+use Rattle.std.specs.List.{AllByRecursion}
 use Rattle.columns.specs.Layouts.{Layout}
 use Rattle.titles.specs.Titles.{Entry}
 use Rattle.reports.specs.Reports.{Usage}
@@ -24,7 +24,7 @@ pub record Fits (ytd : Bool) (n : ℕ) (u : Usage) : Type 0 where
   pub year : YearShown ytd u
 
 abbrev pub EachFits : Layout → List Row → Type 0
-EachFits l rows = All (λ r. Fits l.ytd (column_count l) r.usage) rows
+EachFits l rows = AllByRecursion (λ r. Fits l.ytd (column_count l) r.usage) rows
 
 -- no more lines than there is room for
 pub record RowsFit (l : Layout) (room : ℕ) (rows : List Row) : Type 0 where

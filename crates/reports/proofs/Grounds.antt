@@ -71,11 +71,11 @@ module _ (s : Subject) where
   after_titles = unless table_fits CellCount ∷ unless are_low Number ∷ []
 
   pub head_stops : (e : WriteRefusal) → Some e ≡ first_ground (head_grounds s.head) → Checked s (Err e)
-  head_stops e is = record { ground = first_some e (head_grounds s.head) (table_grounds s) is; totals = tt }
+  head_stops e is = record { refused = first_some e (head_grounds s.head) (table_grounds s) is; totals = tt }
 
   module _ (head : None ≡ first_ground (head_grounds s.head)) where
     refused : (e : WriteRefusal) → Some e ≡ first_ground (table_grounds s) → Checked s (Err e)
-    refused e is = record { ground = is ∙ first_none (head_grounds s.head) (table_grounds s) head; totals = tt }
+    refused e is = record { refused = is ∙ first_none (head_grounds s.head) (table_grounds s) head; totals = tt }
 
     pub count_stops : (length s.entries ≡ s.titles → ⊥) → Checked s (Err TitleCount)
     count_stops other = refused TitleCount (stopped TitleCount (unless count_fits TitleCount) (titles_ground 0 s.entries ∷ after_titles) (bad count_fits TitleCount (ne_eqb (length s.entries) s.titles other)))
@@ -102,7 +102,7 @@ module _ (s : Subject) where
           number_stops high = refused Number (stopped Number (unless are_low Number) [] (bad are_low Number high) ∙ measured)
 
           pub all_well : are_low ≡ true → (t : Counts) → TotalsOf s.cells (columns_of s) s.entries t → Checked s (Ok t)
-          all_well low t is = record { ground = passed (unless are_low Number) [] (fine are_low Number low) ∙ measured ∙ first_none (head_grounds s.head) (table_grounds s) head; totals = is }
+          all_well low t is = record { refused = passed (unless are_low Number) [] (fine are_low Number low) ∙ measured ∙ first_none (head_grounds s.head) (table_grounds s) head; totals = is }
 
 -- every refusal has the same number
 pub numbered : (e : WriteRefusal) → refusal_number e ≡ 11
@@ -126,11 +126,11 @@ module _ (s : Subject) (room : ℕ) where
   grouped = ap first_ground (append_assoc (head_grounds s.head) (table_grounds s) buffer)
 
   pub answer_refused : (e : WriteRefusal) → Checked s (Err e) → Err e ≡ answer s room
-  answer_refused e is = ap (λ g. outcome g (length (text_about s))) (first_some e judged_grounds buffer is.ground ∙ grouped)
+  answer_refused e is = ap (λ g. outcome g (length (text_about s))) (first_some e judged_grounds buffer is.refused ∙ grouped)
 
   module _ (t : Counts) (is : Checked s (Ok t)) where
     left : first_ground buffer ≡ first_ground (grounds s room)
-    left = first_none judged_grounds buffer is.ground ∙ grouped
+    left = first_none judged_grounds buffer is.refused ∙ grouped
 
     pub answer_short : room < length (text_about s) → Err Buffer ≡ answer s room
     answer_short short = ap (λ g. outcome g (length (text_about s))) (stopped Buffer (buffer_ground s room) [] (bad (leb (length (text_about s)) room) Buffer (lt-leb (length (text_about s)) room short)) ∙ left)

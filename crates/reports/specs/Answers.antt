@@ -64,7 +64,7 @@ text_about s = report_text s.layout (report_about s)
 
 -- a ground, unless all is well
 abbrev pub unless : Bool → WriteRefusal → Option WriteRefusal
-unless fine ground = cond fine None (Some ground)
+unless fine refusal = cond fine None (Some refusal)
 
 -- the criteria, the platform and the date, in this order
 abbrev pub head_grounds : Head → List (Option WriteRefusal)

@@ -8,5 +8,5 @@ use Rattle.reports.specs.Counting.{TotalsOf}
 
 -- the numbers of the line for all journals, unless there is a ground to refuse the report
 pub record Checked (s : Subject) (r : Result Counts WriteRefusal) : Type 0 where
-  pub ground : result_err r ≡ first_ground (head_grounds s.head ++ table_grounds s)
+  pub refused : result_err r ≡ first_ground (head_grounds s.head ++ table_grounds s)
   pub totals : IfOk r (λ t. TotalsOf s.cells (columns_of s) s.entries t)

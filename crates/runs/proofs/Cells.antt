@@ -5,7 +5,7 @@ use Rattle.std.proofs.lemmas.List.{length-set, get_or-set_same, get_or-set_other
 use Rattle.std.proofs.lemmas.List.Sums.{sum_by-cons}
 use Rattle.std.proofs.lemmas.Bool.{and_from, and_parts, cases_eq, cond-true, eq-eqb, leb-true, lt-ltb, ne_eqb}
 use Rattle.std.proofs.lemmas.Bool.Decides.{Decides-and, Decides-eqb, Decides-like, same_from_decides}
-use Rattle.std.specs.List.{AllByRecursion as All}
+use Rattle.std.specs.List.{AllByRecursion}
 use Rattle.records.specs.declared.request.Request.{Request}
 use Rattle.records.specs.Requests.{in_range, within}
 use Rattle.runs.specs.Rules.{Setup, cell_count, in_cell, is_column, cell_at, cell_of, placed}
@@ -74,7 +74,7 @@ cond_most true = omega arith
 cond_most false = omega arith
 
 -- accepted requests add themselves to the cell of t, c and k, where no cell is near its largest number
-pub get_d_added : (u : Setup) (n t c k : ℕ) → t < u.titles → c < u.columns → 1 ≤ k → k ≤ 2 → (cs : List ℕ) (rs : List Request) → length cs ≡ cell_count u → All (Acceptable u n) rs → get_or cs (cell_at u t c k) 0 + length rs < 4294967296 → get_or (added u cs rs) (cell_at u t c k) 0 ≡ get_or cs (cell_at u t c k) 0 + count_by (in_cell u t c k) rs
+pub get_d_added : (u : Setup) (n t c k : ℕ) → t < u.titles → c < u.columns → 1 ≤ k → k ≤ 2 → (cs : List ℕ) (rs : List Request) → length cs ≡ cell_count u → AllByRecursion (Acceptable u n) rs → get_or cs (cell_at u t c k) 0 + length rs < 4294967296 → get_or (added u cs rs) (cell_at u t c k) 0 ≡ get_or cs (cell_at u t c k) 0 + count_by (in_cell u t c k) rs
 get_d_added u n t c k t-in c-in k₁ k₂ cs [] size h small = omega arith
 get_d_added u n t c k t-in c-in k₁ k₂ cs (r ∷ rs) size h small =
     let i = cell_at u t c k in

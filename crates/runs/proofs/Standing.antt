@@ -1,7 +1,7 @@
 -- Requests without a follower, when one more is accepted.
 use Rattle.std.proofs.Common.{◌≡◌, ◌+◌, ◌≤◌, Bool, true, false, cond, not, ◌&&◌, ◌||◌, leb, List, [], ◌∷◌, ◌++◌, length, filter, sym, refl, ap, ◌∙◌, ⊎_elim, arith}
 use Rattle.std.proofs.lemmas.Bool.{and_parts, and_right, not-true, cases_Bool, cases_lt, cond-false, cond-true, le-leb, le-ltb, lt-leb, lt-ltb}
-use Rattle.std.specs.List.{AllByRecursion as All}
+use Rattle.std.specs.List.{AllByRecursion}
 use Rattle.records.specs.declared.request.Request.{Request}
 use Rattle.records.specs.Requests.{window}
 use Rattle.runs.specs.Rules.{Setup, follows, outlived, same_reader_and_link}
@@ -58,11 +58,11 @@ standing_or_superseded u (a ∷ xs) =
       | false ↦ omega (arith, ih)
     ]
 
-pub all_standing : (u : Setup) (P : Request → Type 0) (xs : List Request) → All P xs → All P (standing u xs)
+pub all_standing : (u : Setup) (P : Request → Type 0) (xs : List Request) → AllByRecursion P xs → AllByRecursion P (standing u xs)
 all_standing u P [] h = tt
 all_standing u P (a ∷ xs) h =
     let ih = all_standing u P xs h.1 in
-    elim (followed u a xs) as (λ b. All P (cond b (standing u xs) (a ∷ standing u xs))) [ true ↦ ih | false ↦ (h.0, ih) ]
+    elim (followed u a xs) as (λ b. AllByRecursion P (cond b (standing u xs) (a ∷ standing u xs))) [ true ↦ ih | false ↦ (h.0, ih) ]
 
 -- what is superseded is inside its window
 pub outlived_stays : (u : Setup) (q a : Request) → supersedes u q a ≡ true → outlived q.time a ≡ false
