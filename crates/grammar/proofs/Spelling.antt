@@ -21,8 +21,8 @@ abbrev pub giving : {A : Type 0} → A → Reads A
 giving v p = Ok (v, p)
 
 -- what the first reading gives is a part of the value, and tells the second what to read
-pub follow : {A B : Type 0} {f : Reads A} {g : A → Reads B} {Known : B → Type 0} {GoodA : A → Type 0} {GoodB : A → B → Type 0} {textA : A → List ℕ} {textB : A → B → List ℕ} (part : B → A) → Spells f Anything GoodA textA → ((a : A) → GoodA a → Spells (g a) (λ b. (part b ≡ a) × Known b) (GoodB a) (textB a)) → Spells (following f g) Known (λ b. GoodA (part b) × GoodB (part b) b) (λ b. textA (part b) ++ textB (part b) b)
-follow {f = f} {g = g} {GoodA = GoodA} {GoodB = GoodB} {textA = textA} {textB = textB} part first next = record {
+pub follow : {A B : Type 0} {f : Reads A} {g : A → Reads B} {Known : B → Type 0} {GoodA : A → Type 0} {GoodB : A → B → Type 0} {text_a : A → List ℕ} {text_b : A → B → List ℕ} (part : B → A) → Spells f Anything GoodA text_a → ((a : A) → GoodA a → Spells (g a) (λ b. (part b ≡ a) × Known b) (GoodB a) (text_b a)) → Spells (following f g) Known (λ b. GoodA (part b) × GoodB (part b) b) (λ b. text_a (part b) ++ text_b (part b) b)
+follow {f = f} {g = g} {GoodA = GoodA} {GoodB = GoodB} {text_a = text_a} {text_b = text_b} part first next = record {
   sound = λ p y h.
       let a = then_ok (f p) (λ x. g x.0 x.1) y h in
       let s = first.sound p a.0 a.1 in
@@ -30,10 +30,10 @@ follow {f = f} {g = g} {GoodA = GoodA} {GoodB = GoodB} {textA = textA} {textB = 
       let tie = sym t.0.0 in (
         t.0.1,
         (subst GoodA tie s.1, subst (λ x. GoodB x y.0) tie t.1),
-        s.2 ∙ ap (λ m. textA a.0.0 ++ m) t.2 ∙ ap (λ x. textA x ++ (textB x y.0 ++ y.1.rest)) tie ∙ sym (append_assoc (textA (part y.0)) (textB (part y.0) y.0) y.1.rest),
+        s.2 ∙ ap (λ m. text_a a.0.0 ++ m) t.2 ∙ ap (λ x. text_a x ++ (text_b x y.0 ++ y.1.rest)) tie ∙ sym (append_assoc (text_a (part y.0)) (text_b (part y.0) y.0) y.1.rest),
       );
   complete = λ v p m known good e.
-      let s = first.complete (part v) p (textB (part v) v ++ m) tt good.0 (e ∙ append_assoc (textA (part v)) (textB (part v) v) m) in
+      let s = first.complete (part v) p (text_b (part v) v ++ m) tt good.0 (e ∙ append_assoc (text_a (part v)) (text_b (part v) v) m) in
       let t = (next (part v) good.0).complete v s.0 m (refl, known) good.1 s.2 in
       (t.0, ap (λ r. and_then r (λ x. g x.0 x.1)) s.1 ∙ t.1, t.2);
 }
@@ -60,7 +60,7 @@ module _ {A : Type 0} {read : Reads A} {Known Good : A → Type 0} {text : A →
     complete = λ v p m known good e. s.complete v p m good.0 good.1 e;
   }
 
-  pub restate : {Better : A → Type 0} {newText : A → List ℕ} → ((v : A) → Good v → Better v) → ((v : A) → Better v → Good v) → ((v : A) → Better v → text v ≡ newText v) → Spells read Known Good text → Spells read Known Better newText
+  pub restate : {Better : A → Type 0} {new_text : A → List ℕ} → ((v : A) → Good v → Better v) → ((v : A) → Better v → Good v) → ((v : A) → Better v → text v ≡ new_text v) → Spells read Known Good text → Spells read Known Better new_text
   restate up down same s = record {
     sound = λ p y h. let t = s.sound p y h in (t.0, up y.0 t.1, t.2 ∙ ap (λ l. l ++ y.1.rest) (same y.0 (up y.0 t.1)));
     complete = λ v p m known better e. s.complete v p m known (down v better) (e ∙ ap (λ l. l ++ m) (sym (same v better)));

@@ -1,6 +1,6 @@
 -- No number of a title is over that of all journals in its column.
 use Rattle.std.proofs.Common.{◌≡◌, ℕ, ◌+◌, ◌*◌, ◌<◌, ◌≤◌, Bool, true, false, ◌&&◌, List, [], ◌∷◌, map, length, get_or, sum_by, sum, sym, refl, ap, ◌∙◌, subst, ⊎_elim, arith}
-use Rattle.std.proofs.lemmas.List.FromFn.{get_or-range_with_len as getD-counting, length-range_with_len}
+use Rattle.std.proofs.lemmas.List.FromFn.{get_or-range_with_len, length-range_with_len}
 use Rattle.std.proofs.lemmas.List.{length-map}
 use Rattle.std.proofs.lemmas.List.Sums.{get_or-le-sum_by, sum-map}
 use Rattle.std.proofs.lemmas.Bool.{and_from, and_parts, cases_Bool, le-leb, leb-true}
@@ -59,7 +59,7 @@ module _ (html pdf html' pdf' : ℕ → ℕ) (h : (c : ℕ) → html c ≤ html'
 part_le : (f : ℕ → ℕ) (t m : ℕ) → t < m → f t ≤ sum_by f (range_with_len 0 m)
 part_le f t m h =
     let l = length-range_with_len 0 m in
-    subst (λ k. f k ≤ sum_by f (range_with_len 0 m)) (let e = getD-counting 0 m t 0 h in let z : get_or (range_with_len 0 m) t 0 ≡ t = omega arith in z) (get_or-le-sum_by f (range_with_len 0 m) t 0 (omega arith))
+    subst (λ k. f k ≤ sum_by f (range_with_len 0 m)) (let e = get_or-range_with_len 0 m t 0 h in let z : get_or (range_with_len 0 m) t 0 ≡ t = omega arith in z) (get_or-le-sum_by f (range_with_len 0 m) t 0 (omega arith))
 
 module _ (cells : List ℕ) (n m : ℕ) (ytd : Bool) (low : list_all is_low (shown_numbers ytd (usage_by (html_sum cells n m) (pdf_sum cells n m) n)) ≡ true) where
   low_lines : (t : ℕ) (es : List Entry) → t + length es ≡ m → list_all is_low (flat_map (λ (l : Line). shown_numbers ytd l.usage) (lines_from cells n t es)) ≡ true
