@@ -81,10 +81,11 @@ found_is l file after titles total h e =
     (λ i. Ok (record { titles = h.many i; total = sums i })) ∙ sym (ap (map_both found_in Faulty) h.read)
 
 -- the numbers of all titles lie within the table
-pub within : (l : Layout) (t : Tables) (titles columns : ℕ) → roomy l t ≡ true → titles ≤ 512 → columns ≡ column_count l → titles * columns ≤ length t.numbers
-within l t titles columns room most e =
+pub within : (l : Layout) (t : Tables) (file : List ℕ) (after : Tables) (titles columns : ℕ) → roomy l t ≡ true → Held l file after titles → columns ≡ column_count l → titles * columns ≤ length t.numbers
+within l t file after titles columns room h e =
     let parts = and_parts (leb 512 (length t.titles)) _ room in
     let numbers = leb-true (512 * column_count l) (length t.numbers) (and_parts (leb (512 * column_count l) (length t.numbers)) _ parts.1).0 in
-    let m : titles * column_count l ≤ 512 * column_count l = mul-le-mul_right (column_count l) most in
+    let few : titles ≤ 512 = omega (arith, h.many, h.most) in
+    let m : titles * column_count l ≤ 512 * column_count l = mul-le-mul_right (column_count l) few in
     let f : titles * columns ≡ titles * column_count l = ap (λ (n : ℕ). titles * n) e in
     omega (arith, m, numbers, f)

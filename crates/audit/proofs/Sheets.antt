@@ -49,15 +49,15 @@ module _ (cells : List ℕ) (n : ℕ) (es : List Entry) where
 no_grounds : (gs : List (Option WriteRefusal)) → first_ground gs ≡ None → AllByRecursion (λ g. g ≡ None) gs
 no_grounds [] e = tt
 no_grounds (None ∷ gs) e = (refl, no_grounds gs e)
-no_grounds (Some g ∷ gs) e = let z : ◌≡◌ {A = ℕ} 0 1 = cc in absurd (omega arith)
+no_grounds (Some g ∷ gs) e = cc
 
 no_ground : (b : Bool) (g : WriteRefusal) → unless b g ≡ None → b ≡ true
 no_ground true g e = refl
-no_ground false g e = let z : ◌≡◌ {A = ℕ} 0 1 = cc in absurd (omega arith)
+no_ground false g e = cc
 
 granted_none : (g : Option WriteRefusal) (n : ℕ) → is_ok (outcome g n) ≡ true → g ≡ None
 granted_none None n e = refl
-granted_none (Some g) n e = let z : ◌≡◌ {A = ℕ} 0 1 = cc in absurd (omega arith)
+granted_none (Some g) n e = cc
 
 -- a report that is written has as many titles as the ledger
 pub written_counted : (s : Subject) (room : ℕ) → is_ok (answer s room) ≡ true → length s.entries ≡ s.titles

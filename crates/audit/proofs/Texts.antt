@@ -6,7 +6,6 @@ use Rattle.std.proofs.lemmas.List.Sums.{sum-map, sum_by-cons}
 use Rattle.std.specs.List.{range_with_len, AllByRecursion}
 use Rattle.columns.specs.Layouts as layouts
 use Rattle.columns.specs.Layouts.{Layout}
-use Rattle.cells.proofs.Granted.{no_ok, ok_same}
 use Rattle.reports.specs.declared.refusal.WriteRefusal.{WriteRefusal}
 use Rattle.reports.specs.Answers.{Subject, answer, first_ground, grounds, outcome, report_about, text_about}
 use Rattle.reports.specs.Reports.{Line, Report, column_sum}
@@ -74,8 +73,8 @@ written_read s room n sound some most e =
     written_is_read s room n sound (omega (arith, many)) (omega (arith, many)) (sym e)
 
 outcome_length : (g : Option WriteRefusal) (m n : ℕ) → Ok n ≡ outcome g m → n ≡ m
-outcome_length None m n e = ok_same n m e
-outcome_length (Some g) m n e = absurd (no_ok g n (sym e))
+outcome_length None m n e = cc
+outcome_length (Some g) m n e = cc
 
 -- its length is that of its text, which finds room
 pub written_length : (s : Subject) (room n : ℕ) → Ok n ≡ answer s room → (n ≡ length (text_about s)) × (n ≤ room)

@@ -2,7 +2,7 @@
 -- columns are; the tables, the items that the source has still to come, the entries and the buffer are named as they were
 -- before the run, and with a prime as they are after it.
 use Rattle.std.specs.Prelude.{◌≡◌, ℕ, true, List, ◌∷◌, length, is_ok, IfOk, Ok, Err, Result}
-use Rattle.records.specs.declared.item.Item.{Item}
+use Rattle.records.specs.Items.{Item}
 use Rattle.records.specs.declared.request.Request.{Request}
 use Rattle.columns.specs.Layouts.{Layout}
 use Rattle.titles.specs.declared.title.Title.{Title}
@@ -25,24 +25,24 @@ use Rattle.audit.specs.Writings.{Writes}
 -- the run was led to its end, and its report was written or refused
 pub record Ends {R S : Type 0} (at : Terms R S → Setup) (layout : S → Layout) (rule : R) (scheme : S) (limit : ℕ) (waiting waiting' : List Request) (cells' : List ℕ) (xs xs' : List Item) (entries' : List Entry) (titles : List Title) (header : Header) (out out' : List ℕ) (a : Audit R S) : Type 0 where
   -- the ledger is the one that was asked for
-  pub rule_is : a.ledger.terms.rule ≡ rule
-  pub scheme_is : a.ledger.terms.scheme ≡ scheme
-  pub titles_are : a.ledger.terms.titles ≡ length titles
-  pub limit_is : a.ledger.terms.limit ≡ limit
-  pub slots_are : a.ledger.terms.slots ≡ length waiting
+  pub rule_is : a.ledger.last.terms.rule ≡ rule
+  pub scheme_is : a.ledger.last.terms.scheme ≡ scheme
+  pub titles_are : a.ledger.last.terms.titles ≡ length titles
+  pub limit_is : a.ledger.last.terms.limit ≡ limit
+  pub slots_are : a.ledger.last.terms.slots ≡ length waiting
   -- all calls before the settling: those that the entries tell, with their replies
   pub past : Past
   pub told : Told xs entries' past xs'
   -- with them and the settling the ledger stands: each reply, each tally and each cell is what they call for
-  pub stands : Stands (at a.ledger.terms) (settling true granted ∷ past) (settled_books_of a.ledger waiting' cells')
+  pub stands : Stands (at a.ledger.last.terms) (settling true granted ∷ past) (settled_books_of a.ledger waiting' cells')
   -- the report is that of this ledger, its count table and the titles
   pub writing : Writes (subject_of layout a.ledger cells' titles header) out out' a.written
   -- and counts the accepted requests of those calls that have no follower
-  pub counts : is_ok a.written ≡ true → Counts (at a.ledger.terms) (layout scheme).ytd (unfollowed (at a.ledger.terms) past) (report_about (subject_of layout a.ledger cells' titles header)).lines
+  pub counts : is_ok a.written ≡ true → Counts (at a.ledger.last.terms) (layout scheme).ytd (unfollowed (at a.ledger.last.terms) past) (report_about (subject_of layout a.ledger cells' titles header)).lines
   -- the total that was read back from it is the number of all of them
-  pub read_total : IfOk a.written (λ w. w.total ≡ length (unfollowed (at a.ledger.terms) past))
+  pub read_total : IfOk a.written (λ w. w.total ≡ length (unfollowed (at a.ledger.last.terms) past))
   -- so that its total is the ledger's tally of counted requests
-  pub tally : is_ok a.written ≡ true → total (at a.ledger.terms).columns (report_about (subject_of layout a.ledger cells' titles header)).lines ≡ a.ledger.tallies.counted
+  pub tally : is_ok a.written ≡ true → total (at a.ledger.last.terms).columns (report_about (subject_of layout a.ledger cells' titles header)).lines ≡ a.ledger.last.tallies.counted
 
 -- the ledger was not opened, and everything is as it was
 pub record Stays {R S : Type 0} (rule : R) (scheme : S) (waiting : List Request) (cells : List ℕ) (waiting' : List Request) (cells' : List ℕ) (xs xs' : List Item) (entries entries' : List Entry) (out out' : List ℕ) (e : Unopened R S) : Type 0 where

@@ -1,12 +1,12 @@
 //! A report, read back from the bytes that were written.
-ghost use Rattle.std.specs.Prelude.{◌≡◌, ◌*◌, ◌^◌, ◌≤◌, true, length, sum};
+ghost use Rattle.std.specs.Prelude.{◌≡◌, ◌≤◌, true, length, sum};
 ghost use Rattle.grammar.specs.Files.{read_file};
-ghost use Rattle.readback.specs.Answers.{map_both, new_tables, roomy};
+ghost use Rattle.readback.specs.Answers.{held_by, map_both, roomy};
 ghost use Rattle.readback.specs.declared.answer.ReadRefusal.TheVariants.{Faulty};
 ghost use Rattle.audit.specs.Readings.{found_in};
 
 use columns::ColumnScheme;
-use readback::{ReadRefusal, read};
+use readback::{LentTables, ReadRefusal, read};
 use titles::Title;
 
 /// What a report says once it is read back: how many titles it has, and the sum of all their numbers.
@@ -16,42 +16,29 @@ pub(crate) struct Found {
     pub total: u64,
 }
 
-const NO_TITLE: Title<'static> = Title {
-    name: b"",
-    publisher: b"",
-    print: None,
-    online: None,
-};
-
 /// The sum of the numbers of a report.
 fn sum_of(numbers: &[u32]) -> u64
     requires { length numbers.now ≤ 6144 }
     ensures { result ≡ sum numbers.now }
 {
-    let mut total = 0u64;
-    for number in numbers {
-        total += u64::from(*number);
-    }
-    total
+    numbers.iter().map(|number| u64::from(*number)).sum()
 }
 
 /// Reads a report back into tables of full size, and sums up the numbers that it shows.
 fn read_into<'a, S: ColumnScheme>(
     scheme: &S,
     file: &'a [u8],
-    titles: &mut [Title<'a>],
-    numbers: &mut [u32],
-    ytd: &mut [u32],
+    tables: &mut LentTables<'_, 'a>,
 ) -> Result<Found, ReadRefusal>
-    requires room { roomy (S.ColumnScheme.layout scheme.now) (new_tables titles.old numbers.old ytd.old) ≡ true }
-    requires few { length numbers.old ≤ 6144 }
+    requires room { roomy (S.ColumnScheme.layout scheme.now) (held_by tables.old) ≡ true }
+    requires few { length tables.old.numbers.now ≤ 6144 }
     ensures { result ≡ map_both found_in Faulty (read_file (S.ColumnScheme.layout scheme.now) file.now) }
 {
-    let out = read(scheme, file, titles, numbers, ytd)?;
+    let out = read(scheme, file, tables)?;
     let shown = out.titles * scheme.columns();
     Ok(Found {
         titles: out.titles,
-        total: sum_of(&numbers[0..shown]),
+        total: sum_of(&tables.numbers[..shown]),
     })
 }
 
@@ -59,8 +46,13 @@ fn read_into<'a, S: ColumnScheme>(
 pub(crate) fn read_back<S: ColumnScheme>(scheme: &S, file: &[u8]) -> Result<Found, ReadRefusal>
     ensures { result ≡ map_both found_in Faulty (read_file (S.ColumnScheme.layout scheme.now) file.now) }
 {
-    let mut titles = [NO_TITLE; 512];
+    let mut titles = [Title::default(); 512];
     let mut numbers = [0u32; 6144];
     let mut ytd = [0u32; 1024];
-    read_into(scheme, file, &mut titles, &mut numbers, &mut ytd)
+    let mut tables = LentTables {
+        titles: &mut titles,
+        numbers: &mut numbers,
+        ytd: &mut ytd,
+    };
+    read_into(scheme, file, &mut tables)
 }

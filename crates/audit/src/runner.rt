@@ -27,7 +27,7 @@ pub fn run<'a, R: ReaderRule, S: ColumnScheme, Src: Source>(
     header: &Header<'a>,
     out: &mut [u8],
 ) -> Result<Audit<R, S>, Unopened<R, S>>
-    ensures { Audits (setup R.ReaderRule.relates S.ColumnScheme.place S.ColumnScheme.layout) S.ColumnScheme.layout rule scheme limit waiting.old cells.old waiting.new cells.new (Src.Source.items source.old) (Src.Source.items source.new) entries.old entries.new titles.now header.now out.old out.new result }
+    ensures { Audits (setup R.ReaderRule S.ColumnScheme) S.ColumnScheme.layout rule scheme limit waiting.old cells.old waiting.new cells.new (Src.Source.items source.old) (Src.Source.items source.new) entries.old entries.new titles.now header.now out.old out.new result }
 {
     let ledger = replay::run(
         rule,

@@ -12,7 +12,7 @@ use titles::Title;
 
 /// A report that was written: how many bytes it has, and what it says once it is read back, that is how many titles it
 /// has, and the sum of all numbers of its columns.
-#[derive(Clone, Copy)]
+#[derive(Clone, Copy, Debug, PartialEq, Eq)]
 pub struct Written {
     pub length: usize,
     pub titles: usize,
@@ -30,15 +30,13 @@ pub fn report<'a, R: ReaderRule, S: ColumnScheme>(
     header: &Header<'a>,
     out: &mut [u8],
 ) -> Result<Written, WriteRefusal>
-    ensures { Reports (setup R.ReaderRule.relates S.ColumnScheme.place S.ColumnScheme.layout ledger.now.terms) (λ w. settled_books_of ledger.now w cells.now) (subject_of S.ColumnScheme.layout ledger.now cells.now titles.now header.now) out.old out.new result }
+    ensures { Reports (setup R.ReaderRule S.ColumnScheme ledger.now.last.terms) (λ w. settled_books_of ledger.now w cells.now) (subject_of S.ColumnScheme.layout ledger.now cells.now titles.now header.now) out.old out.new result }
 {
     let length = write(ledger, cells, titles, header, out)?;
-    match read_back(ledger.scheme(), &out[0..length]) {
-        Ok(found) => Ok(Written {
-            length,
-            titles: found.titles,
-            total: found.total,
-        }),
-        Err(_) => unreachable(),
-    }
+    let found = read_back(ledger.scheme(), &out[..length]).unwrap();
+    Ok(Written {
+        length,
+        titles: found.titles,
+        total: found.total,
+    })
 }

@@ -2,5 +2,6 @@ pub mod Granted
 pub mod Walking
 pub mod Numbering
 pub mod Dating
-pub mod Sound
-pub mod Complete
+pub mod Reading
+pub mod Judges
+pub mod Judging

@@ -1,19 +1,21 @@
 -- What belongs in a cell, and what is wrong with one that holds something else.
-use Rattle.std.specs.Prelude.{ℕ, ◌+◌, Bool, cond, List, [], ◌∷◌, Some, None, Ok, Err, Option, Result, ◌==◌}
+use Rattle.std.specs.Prelude.{◌≡◌, ℕ, ◌+◌, Bool, cond, List, [], ◌∷◌, Some, None, Ok, Err, Option, Result, ◌==◌}
 use Rattle.std.specs.Str.{bytes_eq}
 use Rattle.texts.specs.Texts.{is_text}
 use Rattle.titles.specs.declared.issn.Issn.{Issn}
 use Rattle.titles.specs.declared.issn.IssnFault.{IssnFault}
 use Rattle.titles.specs.Issns.{read_issn}
 use Rattle.reports.specs.declared.header.Date.{Date}
+use Rattle.cells.specs.declared.cell.Cell.{Cell}
 use Rattle.cells.specs.declared.fault.Cause.{Cause}
 use Rattle.cells.specs.declared.fault.Cause.TheVariants.{WrongText, WrongNumber, WrongSum}
+use Rattle.cells.specs.declared.fault.CellFault.{CellFault}
 use Rattle.cells.specs.declared.fault.LineFault.{LineFault}
-use Rattle.cells.specs.Cells.{Found, cell_at}
+use Rattle.cells.specs.Cells.{Found, cell_at, found}
 use Rattle.cells.specs.Dates.{read_date}
 use Rattle.cells.specs.Faults.{closed, fault_at, unended}
 use Rattle.cells.specs.Numbers.{number_of}
-use Rattle.cells.specs.Places.{Place, and_then, onward}
+use Rattle.cells.specs.Places.{Place, and_then, onward, seen}
 
 -- a judged cell: its content's fault first, then whether the line ends with it just where it should
 abbrev pub settle : {A : Type 0} → Bool → Result A Cause → Found → Place → Result (A × Place) LineFault
@@ -23,6 +25,13 @@ settle last (Err cause) f p = Err (fault_at f.spot cause)
 -- the next cell, by what is judged of the bytes in it
 abbrev pub read_cell : {A : Type 0} → (List ℕ → Result A Cause) → Bool → Place → Result (A × Place) LineFault
 read_cell judge last p = onward unended (cell_at p) (λ x. settle last (judge x.0.body) x.0 x.1)
+
+-- r is the answer of a reading that then stands at q: the next cell is not ended, or it is settled by what a judge, who
+-- may say only so of it, says of it
+abbrev pub JudgedBy : {A : Type 0} → (Cell → Result A Cause → Type 0) → Bool → Result (Found × Place) CellFault → Result A LineFault → Place → Type 0
+JudgedBy {A} may last (Err f) r q = r ≡ Err (unended f)
+JudgedBy {A} may last (Ok x) r q =
+    (c : Cell) × (found c ≡ x.0) × ((j : Result A Cause) × (may c j × (seen (λ v. v) r q ≡ settle last j x.0 x.1)))
 
 abbrev pub or_else : {A : Type 0} → Cause → Option A → Result A Cause
 or_else cause None = Err cause

@@ -1,13 +1,14 @@
 //! A cell, as the part of the file that it is.
 ghost use Rattle.std.specs.Prelude.{◌≡◌, ◌+◌, ◌^◌, ◌<◌};
-ghost use Rattle.cells.specs.Cells.{body_of, found, found_in, spot_of};
+ghost use Rattle.cells.specs.Cells.{body_of, found, found_in, spot_of, value_of};
 ghost use Rattle.cells.specs.Faults.{closed, fault_at};
 
 use crate::fault::{Cause, LineFault};
 use crate::number::read_number;
 
 /// Where a cell stands, and whether it ends its line. Lines and columns, which go by cells, count from 1.
-#[derive(Clone, Copy)]
+// `last` is a `bool`, since it is held against what a caller reckons for the cell that it wants.
+#[derive(Clone, Copy, Debug, PartialEq, Eq)]
 pub struct Spot {
     pub line: usize,
     pub column: usize,
@@ -15,7 +16,7 @@ pub struct Spot {
 }
 
 /// A cell of a file, with its place.
-#[derive(Clone, Copy)]
+#[derive(Clone, Copy, Debug, PartialEq, Eq)]
 pub enum Cell<'a> {
     Blank {
         spot: Spot,
@@ -38,11 +39,9 @@ impl<'a> Cell<'a> {
     pub(crate) fn of(bytes: &'a [u8], spot: Spot) -> Cell<'a>
         ensures { found result ≡ found_in bytes.now spot }
     {
-        if bytes.is_empty() {
-            return Cell::Blank { spot };
-        }
         match read_number(bytes) {
             Some(value) => Cell::Number { bytes, value, spot },
+            None if bytes.is_empty() => Cell::Blank { spot },
             None => Cell::Text { bytes, spot },
         }
     }
@@ -53,8 +52,17 @@ impl<'a> Cell<'a> {
     {
         match self {
             Cell::Blank { .. } => &[],
-            Cell::Number { bytes, .. } => bytes,
-            Cell::Text { bytes, .. } => bytes,
+            Cell::Number { bytes, .. } | Cell::Text { bytes, .. } => bytes,
+        }
+    }
+
+    /// The number that it shows, if it is one.
+    pub(crate) fn number(self) -> Option<u32>
+        ensures { result ≡ value_of self.entry }
+    {
+        match self {
+            Cell::Number { value, .. } => Some(value),
+            Cell::Blank { .. } | Cell::Text { .. } => None,
         }
     }
 
@@ -63,9 +71,7 @@ impl<'a> Cell<'a> {
         ensures { result ≡ spot_of self.entry }
     {
         match self {
-            Cell::Blank { spot } => spot,
-            Cell::Number { spot, .. } => spot,
-            Cell::Text { spot, .. } => spot,
+            Cell::Blank { spot } | Cell::Number { spot, .. } | Cell::Text { spot, .. } => spot,
         }
     }
 }
@@ -92,10 +98,10 @@ impl Spot {
         if self.last == last {
             return Ok(());
         }
-        Err(LineFault {
-            line: self.line,
+        let next = Spot {
             column: self.column + 1,
-            cause: Cause::WrongCellCount,
-        })
+            ..self
+        };
+        Err(next.fault(Cause::WrongCellCount))
     }
 }

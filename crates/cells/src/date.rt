@@ -17,6 +17,7 @@ fn two_digits(tens: u8, ones: u8) -> Option<u8>
 }
 
 /// The date that the bytes show as yyyy-mm-dd, if it is a real one of 2000 to 2099.
+// A function and no `TryFrom`, since bytes and dates are both types of other crates.
 pub(crate) fn read_date(bytes: &[u8]) -> Option<Date>
     ensures { result ≡ read_date bytes.now }
 {
@@ -28,9 +29,5 @@ pub(crate) fn read_date(bytes: &[u8]) -> Option<Date>
     let month = two_digits(*e, *f)?;
     let day = two_digits(*g, *h)?;
     let year = u16::from(century) * 100 + u16::from(years);
-    if is_date(year, month, day) {
-        Some(Date { year, month, day })
-    } else {
-        None
-    }
+    is_date(year, month, day).then_some(Date { year, month, day })
 }

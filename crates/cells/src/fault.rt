@@ -2,15 +2,18 @@
 ghost use Rattle.std.specs.Prelude.{◌≡◌};
 ghost use Rattle.cells.specs.Faults.{unended};
 
+use std::error::Error;
+use std::fmt;
+
 /// The file ends inside this cell, before a comma or CR LF ends it.
-#[derive(Clone, Copy)]
+#[derive(Clone, Copy, Debug, PartialEq, Eq)]
 pub struct CellFault {
     pub line: usize,
     pub column: usize,
 }
 
 /// What is wrong with a cell of a line.
-#[derive(Clone, Copy)]
+#[derive(Clone, Copy, Debug, PartialEq, Eq)]
 pub enum Cause {
     /// It does not hold the text that belongs there.
     WrongText,
@@ -25,7 +28,8 @@ pub enum Cause {
 }
 
 /// The cell of a line that is at fault, and what is wrong with it.
-#[derive(Clone, Copy)]
+// Line and column are fields of each type that tells a place, since callers read and write them there by name.
+#[derive(Clone, Copy, Debug, PartialEq, Eq)]
 pub struct LineFault {
     pub line: usize,
     pub column: usize,
@@ -36,10 +40,46 @@ impl From<CellFault> for LineFault {
     ghost from_gives = { λ e r. r ≡ unended e };
 
     fn from(fault: CellFault) -> LineFault {
+        let CellFault { line, column } = fault;
         LineFault {
-            line: fault.line,
-            column: fault.column,
+            line,
+            column,
             cause: Cause::EndOfFile,
         }
     }
 }
+
+impl fmt::Display for Cause {
+    fn fmt<W: fmt::Write>(&self, f: &mut fmt::Formatter<W>) -> fmt::Result {
+        f.write_str(match self {
+            Cause::WrongText => "wrong text",
+            Cause::WrongNumber => "wrong number",
+            Cause::WrongSum => "wrong sum",
+            Cause::WrongCellCount => "wrong cell count",
+            Cause::EndOfFile => "end of file",
+        })
+    }
+}
+
+impl fmt::Display for LineFault {
+    fn fmt<W: fmt::Write>(&self, f: &mut fmt::Formatter<W>) -> fmt::Result {
+        let LineFault {
+            line,
+            column,
+            cause,
+        } = self;
+        write!(f, "line {line}, column {column}, {cause}")
+    }
+}
+
+impl fmt::Display for CellFault {
+    fn fmt<W: fmt::Write>(&self, f: &mut fmt::Formatter<W>) -> fmt::Result {
+        write!(f, "{}", LineFault::from(*self))
+    }
+}
+
+impl Error for Cause {}
+
+impl Error for LineFault {}
+
+impl Error for CellFault {}

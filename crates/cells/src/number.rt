@@ -2,6 +2,8 @@
 ghost use Rattle.std.specs.Prelude.{◌≡◌};
 ghost use Rattle.cells.specs.Numbers.{number_of, plain};
 
+use std::str::from_utf8;
+
 /// The highest number that is shown.
 const HIGHEST: u32 = 1_000_000_000;
 
@@ -9,26 +11,17 @@ const HIGHEST: u32 = 1_000_000_000;
 pub(crate) fn read_number(bytes: &[u8]) -> Option<u32>
     ensures { result ≡ number_of bytes.now }
 {
-    if !is_plain(bytes) {
+    // A plus sign is a number's to `parse`, and not a report's.
+    if !is_plain(bytes) || bytes.starts_with(b"+") {
         return None;
     }
-    let mut number = 0u32;
-    for byte in bytes {
-        if !byte.is_ascii_digit() || number > HIGHEST / 10 {
-            return None;
-        }
-        number = number * 10 + u32::from(*byte - b'0');
-    }
-    if number > HIGHEST { None } else { Some(number) }
+    let number = from_utf8(bytes).ok()?.parse().ok()?;
+    (number <= HIGHEST).then_some(number)
 }
 
 /// Whether there is a byte, and no zero leads others.
 fn is_plain(bytes: &[u8]) -> bool
     ensures { result ≡ plain bytes.now }
 {
-    match bytes {
-        [] => false,
-        [_] => true,
-        [first, ..] => *first != b'0',
-    }
+    !matches!(bytes, [] | [b'0', _, ..])
 }

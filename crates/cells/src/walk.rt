@@ -9,7 +9,7 @@ use crate::fault::{Cause, CellFault, LineFault};
 use crate::reader::CellReader;
 
 /// How a cell ends: behind how many bytes, and whether its line ends with it.
-#[derive(Clone, Copy)]
+#[derive(Clone, Copy, Debug, PartialEq, Eq)]
 struct CellEnd {
     length: usize,
     last: bool,
@@ -31,13 +31,11 @@ fn find_end(bytes: &[u8]) -> Option<CellEnd>
     ensures cut { cut bytes.now ≡ cut_by bytes.now result }
     ensures within { end_within (length bytes.now) result }
 {
-    let mut length = 0;
-    while length < bytes.len() {
-        let (_, rest) = bytes.split_at(length);
-        if let Some(last) = end_here(rest) {
+    // By lengths and not by bytes: an end is a byte or two, so each is looked for at the front of what is left.
+    for length in 0..bytes.len() {
+        if let Some(last) = end_here(&bytes[length..]) {
             return Some(CellEnd { length, last });
         }
-        length += 1;
     }
     None
 }
@@ -59,7 +57,7 @@ impl<'a> CellReader<'a> {
     pub fn is_done(&self) -> bool
         ensures { result ≡ is_nil (place_of self.now).rest }
     {
-        self.offset == self.file.len()
+        self.file[self.offset..].is_empty()
     }
 
     /// A fault that lies where the walk stands.
@@ -80,11 +78,11 @@ impl<'a> CellReader<'a> {
     {
         let line = self.line;
         let column = self.column;
-        let (_, rest) = self.file.split_at(self.offset);
+        let rest = &self.file[self.offset..];
         let Some(end) = find_end(rest) else {
             return Err(CellFault { line, column });
         };
-        let (bytes, _) = rest.split_at(end.length);
+        let bytes = &rest[..end.length];
         let last = end.last;
         if last {
             self.offset += end.length + 2;

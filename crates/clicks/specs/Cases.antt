@@ -1,6 +1,5 @@
 -- The worked cases of the rules.
-use Rattle.std.specs.Prelude.{◌≡◌, ℕ, ◌+◌, Bool, true, false, List, [], ◌∷◌, Some, None, codes}
-use Rattle.records.specs.declared.item.Item.TheVariants.{Readable}
+use Rattle.std.specs.Prelude.{◌≡◌, ℕ, ◌+◌, Bool, true, false, List, [], ◌∷◌, Some, None, codes, Ok}
 use Rattle.records.specs.declared.request.Request.{Request}
 use Rattle.records.specs.Readers.{same_address, same_best}
 use Rattle.columns.specs.Places.{month_place, year_place}
@@ -30,7 +29,7 @@ under same = record { same = same; place = λ r. month_place 2009 2 r.time; colu
 -- requests offered one after another, each answered as the checks decide on the past before it
 abbrev pub offering : Setup → Past → List Request → Past
 offering u p [] = p
-offering u p (r ∷ rs) = offering u (offered true (Readable r) (answer_to u true (facts p) (Readable r)) ∷ p) rs
+offering u p (r ∷ rs) = offering u (offered true (Ok r) (answer_to u true (facts p) (Ok r)) ∷ p) rs
 
 -- what is told of them under a reader rule, once the ledger is settled
 abbrev pub told : (Request → Request → Bool) → List Request → Facts

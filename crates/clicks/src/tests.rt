@@ -1,16 +1,12 @@
 //! Clicks by one reader for one link, unless a case says otherwise, counted by a settled ledger.
 use columns::MonthScheme;
 use ledger::{Open, Tallies, Unsettled};
-use records::{AddressRule, BestRule, Item, ReaderRule, Request};
+use records::{AddressRule, BestRule, HTML, PDF, ReaderRule, Request};
 use std::process::Abort;
 use std::test::Fail;
 
 /// The start of 2009.
 const B: u32 = 284_083_200;
-
-const HTML: u8 = 1;
-
-const PDF: u8 = 2;
 
 /// What a run counted: January HTML and PDF, February HTML and PDF.
 #[derive(Drop)]
@@ -42,32 +38,33 @@ fn offer_all<R: ReaderRule>(
     clicks: &[Request],
 ) {
     for request in clicks {
-        let _ = ledger.offer(waiting, cells, &Item::Readable(*request));
+        let _ = ledger.offer(waiting, cells, &Ok(*request));
     }
 }
 
 /// Offers the clicks to a ledger for January and February 2009, and settles it.
-fn count<R: ReaderRule + Drop>(rule: R, clicks: &[Request]) -> Option<Counted> {
+fn count<R: ReaderRule + Drop>(rule: R, clicks: &[Request]) -> Result<Counted, Fail> {
     let mut waiting = [click(HTML, 0); 4];
     let mut cells = [9; 4];
-    let scheme = MonthScheme::new(2009, 2).ok()?;
-    let mut ledger = Open::new(rule, scheme, 1, 100, &waiting, &mut cells).ok()?;
+    let scheme = MonthScheme::new(2009, 2).map_err(|_| Fail::new("no scheme"))?;
+    let mut ledger = Open::new(rule, scheme, 1, 100, &waiting, &mut cells).map_err(|_| Fail::new(
+        "not opened",
+    ))?;
     offer_all(&mut ledger, &mut waiting, &mut cells, clicks);
     match ledger.settle(&mut waiting, &mut cells) {
         Ok(settled) => {
             let tallies = settled.tallies();
             let clock = settled.clock();
             let _ = settled.close();
-            Some(Counted {
+            Ok(Counted {
                 cells,
                 tallies,
                 clock,
             })
         }
-        Err(unsettled) => {
-            let Unsettled { ledger, refusal: _ } = unsettled;
+        Err(Unsettled { ledger, refusal: _ }) => {
             let _ = ledger.abandon();
-            None
+            Err(Fail::new("not settled"))
         }
     }
 }
@@ -78,9 +75,7 @@ fn check_cells(
     cells: [u32; 4],
     superseded: u32,
 ) -> Result<(), Fail> {
-    let Some(run) = count(BestRule, clicks) else {
-        return Err(Fail::new("not run"));
-    };
+    let run = count(BestRule, clicks)?;
     assert!(rt; run.cells == cells);
     assert!(rt; run.tallies.superseded == superseded);
     assert!(rt; run.tallies.waiting == 0);
@@ -122,9 +117,7 @@ fn an_unsuccessful_click_leaves_the_clock(rt: HostRuntime) -> Result<(), Fail> {
         status: 404,
         ..click(HTML, B + 5)
     };
-    let Some(run) = count(BestRule, &[click(HTML, B), missing]) else {
-        return Err(Fail::new("not run"));
-    };
+    let run = count(BestRule, &[click(HTML, B), missing])?;
     assert!(rt; run.clock == B && run.tallies.passed_over == 1 && run.tallies.presented == 2);
     assert!(rt; run.cells == [1, 0, 0, 0]);
     Ok(())
@@ -141,9 +134,7 @@ fn cookies_part_readers_under_the_best_rule(rt: HostRuntime) -> Result<(), Fail>
         ..click(HTML, B + 1)
     };
     check_cells(&rt, &[five, six], [2, 0, 0, 0], 0)?;
-    let Some(run) = count(AddressRule, &[five, six]) else {
-        return Err(Fail::new("not run"));
-    };
+    let run = count(AddressRule, &[five, six])?;
     assert!(rt; run.cells == [1, 0, 0, 0]);
     Ok(())
 }

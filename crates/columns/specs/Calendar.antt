@@ -60,6 +60,12 @@ pub record MonthOf (t : ℕ) (r : Option Month) : Type 0 where
   pub past : r ≡ None → 3155759999 < t
   pub none : 3155759999 < t → r ≡ None
 
+-- r is the month of the year y in which the second t lies, and none exactly where t does not lie in y
+pub record MonthIn (y t : ℕ) (r : Option ℕ) : Type 0 where
+  pub lies : (m : ℕ) → r ≡ Some m → InMonth y m t
+  pub only : (m : ℕ) → InMonth y m t → r ≡ Some m
+  pub outside : r ≡ None → InYear y t → ⊥
+
 -- a date of 2000 to 2099, its month and day counted from 1
 abbrev pub is_date : ℕ → ℕ → ℕ → Bool
 is_date y m d = within 2000 2099 y && (within 1 12 m && within 1 (days_in y (m - 1)) d)

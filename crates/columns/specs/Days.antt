@@ -74,13 +74,13 @@ month_known y m t i = record {
       let e = same_year y z t (in_year y m t i) (in_year z n t j) in
       let f = (let k = rw e at i in same_month z m n t k.from k.to j.from j.to) in
       cc;
-  past = λ e. let z : ◌≡◌ {A = ℕ} 0 1 = cc in absurd (omega arith);
+  past = λ e. cc;
   none = λ l. let h = in_calendar y t (in_year y m t i) in absurd (omega arith);
 }
 
 pub month_unknown : (t : ℕ) → 3155759999 < t → MonthOf t None
 month_unknown t l = record {
-  lies = λ d e. let z : ◌≡◌ {A = ℕ} 0 1 = cc in absurd (omega arith);
+  lies = λ d e. cc;
   only = λ y m i. let h = in_calendar y t (in_year y m t i) in absurd (omega arith);
   past = λ e. l;
   none = λ _. refl;

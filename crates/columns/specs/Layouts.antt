@@ -1,7 +1,8 @@
 -- What a column scheme shows in a report.
 use Rattle.std.specs.Borrow.{Bor}
-use Rattle.std.specs.Prelude.{◌≡◌, ℕ, ◌+◌, ◌-◌, ◌<◌, ◌≤◌, Bool, true, false, cond, List, [], ◌∷◌, ◌++◌, map, length, take, Some, None, codes, Option, nat_lt, slice_index_or}
-use Rattle.std.specs.List.{range_with_len}
+use Rattle.std.specs.Prelude.{◌≡◌, ℕ, ◌+◌, ◌-◌, ◌<◌, ◌≤◌, Bool, true, false, List, [], ◌∷◌, ◌++◌, map, length, take, codes, Option, slice_index_or}
+use Rattle.std.specs.List.{range_with_len, slice_get}
+use Rattle.std.specs.Option.{option_copied}
 use Rattle.texts.specs.Texts.{is_text}
 use Rattle.columns.specs.Calendar.{digits, names}
 
@@ -24,12 +25,11 @@ pub record Sound (l : Layout) : Type 0 where
 
 -- the heading of a column, and none past the last
 abbrev pub heading_at : Layout → ℕ → Option (List ℕ)
-heading_at l c = cond (nat_lt c (length l.headings)) (Some (slice_index_or l.headings c [])) None
+heading_at l c = slice_get l.headings c
 
 -- the bytes that are lent, if any
 abbrev pub lent : Option (Bor (List ℕ)) → Option (List ℕ)
-lent None = None
-lent (Some r) = Some r.now
+lent = option_copied
 
 -- as Jan-2009
 abbrev pub month_heading : ℕ → List ℕ → List ℕ

@@ -1,10 +1,11 @@
 -- The headings of a month scheme.
-use Rattle.std.specs.Prelude.{◌≡◌, ℕ, zero, suc, ◌+◌, ◌%◌, ◌<◌, ◌≤◌, Bool, true, false, cond, ◌&&◌, List, [], ◌∷◌, ◌++◌, length, take, ◌==◌, slice_index_or, refl}
+use Rattle.std.specs.Prelude.{◌≡◌, ℕ, zero, suc, ◌+◌, ◌%◌, ◌<◌, ◌≤◌, true, List, [], ◌∷◌, ◌++◌, length, take, slice_index_or, refl}
 use Rattle.std.proofs.Common.{sym, ap, ◌∙◌, arith}
 use Rattle.std.proofs.ByRecursion.{All-get_or}
 use Rattle.std.proofs.lemmas.List.{length-map, length-take-le, get_or-map, get_or-take}
 use Rattle.std.proofs.lemmas.Bool.Decides.{nat_tests}
-use Rattle.std.specs.List.{AllByRecursion}
+use Rattle.std.specs.List.{AllByRecursion, position_or_len}
+use Rattle.std.specs.Str.{bytes_eq}
 use Rattle.texts.specs.Texts.{fit, all_fit, is_text}
 use Rattle.columns.specs.Calendar.{digits, names}
 use Rattle.columns.specs.Layouts.{Sound, month_heading, month_layout}
@@ -17,19 +18,12 @@ pub fit_digits : (n : ℕ) → all_fit (digits n) ≡ true
 fit_digits n = simp fit_digit
 
 -- where a name stands among the names
-same : List ℕ → List ℕ → Bool
-same [] [] = true
-same [] (y ∷ ys) = false
-same (x ∷ xs) [] = false
-same (x ∷ xs) (y ∷ ys) = x == y && same xs ys
-
 which : List ℕ → List (List ℕ) → ℕ
-which n [] = 0
-which n (x ∷ xs) = cond (same n x) 0 (suc (which n xs))
+which n = position_or_len (bytes_eq n)
 
 -- a name is found at its place, whatever follows it
 which_name : (k : ℕ) (t : List ℕ) → k < 12 → which (take 3 (slice_index_or names k [] ++ t)) names ≡ k
-unfolding which same
+unfolding which
 which_name zero t h = refl
 which_name (suc zero) t h = refl
 which_name (suc (suc zero)) t h = refl

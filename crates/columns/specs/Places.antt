@@ -1,20 +1,15 @@
 -- Which column a request has.
-use Rattle.std.specs.Prelude.{◌≡◌, ℕ, ◌+◌, ◌-◌, ◌<◌, ◌≤◌, Bool, cond, ◌&&◌, ◌||◌, ◌⊎◌, List, [], ◌∷◌, Some, None, Option, ◌==◌, nat_le, nat_lt}
-use Rattle.std.specs.List.{range_with_len}
+use Rattle.std.specs.Prelude.{◌≡◌, ℕ, ◌+◌, ◌-◌, ◌<◌, ◌≤◌, Bool, cond, ◌&&◌, ◌||◌, ◌⊎◌, Some, None, Option, ◌==◌, nat_le, nat_lt}
+use Rattle.std.specs.List.{find, range_with_len}
 use Rattle.columns.specs.Calendar.{year_start, month_start, InYear, InMonth}
 
 -- from a on, and before b
 abbrev pub during : ℕ → ℕ → ℕ → Bool
 during a b t = nat_le a t && nat_lt t b
 
--- the first of some numbers that passes a test
-abbrev pub first : (ℕ → Bool) → List ℕ → Option ℕ
-first test [] = None
-first test (n ∷ ns) = cond (test n) (Some n) (first test ns)
-
 -- the column of a request by month: the one, of the first n months of the year y, in which its second t lies
 abbrev pub month_place : ℕ → ℕ → ℕ → Option ℕ
-month_place y n t = first (λ m. during (month_start y m) (month_start y (m + 1)) t) (range_with_len 0 n)
+month_place y n t = find (λ m. during (month_start y m) (month_start y (m + 1)) t) (range_with_len 0 n)
 
 -- what that means: a request has a column exactly if it was made in one of the first n months of the year y, and then
 -- that month's

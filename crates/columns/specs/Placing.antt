@@ -1,42 +1,31 @@
 -- What column a request has, as a relation.
-use Rattle.std.specs.Prelude.{◌≡◌, ℕ, zero, suc, ◌+◌, ◌-◌, ◌<◌, ◌≤◌, Bool, true, cond, ◌||◌, ◌⊎◌, IfSome, Some, None, Option, ◌==◌, ◌≢◌, nat_le, nat_lt, refl}
-use Rattle.std.proofs.Common.{inl, inr, ⊎_elim, sym, ap, ◌∙◌, arith}
-use Rattle.std.proofs.lemmas.Bool.{cases_Bool, cases_lt, cond-true, cond-false, and_parts, and_from, or_parts, leb-true, ltb-true, ltb-false, eqb-false, le-leb, lt-ltb, both_ways}
+use Rattle.std.specs.Prelude.{◌≡◌, ℕ, zero, suc, ◌+◌, ◌-◌, ◌<◌, ◌≤◌, Bool, true, cond, ◌⊎◌, IfSome, Some, None, Option, ◌≢◌, nat_lt, refl}
+use Rattle.std.proofs.Common.{⊎_elim, sym, ◌∙◌, arith}
 use Rattle.std.proofs.lemmas.Bool.Decides.{nat_tests}
-use Rattle.std.specs.List.{range_with_len}
-use Rattle.columns.specs.Calendar.{year_start, month_start, InYear, InMonth}
-use Rattle.columns.specs.Places.{during, first, month_place, MonthColumn, publication_place, year_place, YearColumn}
+use Rattle.std.specs.List.{find, range_with_len}
+use Rattle.columns.specs.Calendar.{year_start, month_start, InYear}
+use Rattle.columns.specs.Places.{during, month_place, MonthColumn, publication_place, year_place, YearColumn}
 use Rattle.columns.specs.Days.{same_month}
 
 no_some : {X : Type 0} (x : X) → None ≢ Some x
-no_some x e = let z : ◌≡◌ {A = ℕ} 0 1 = cc in omega arith
+no_some x e = cc
 
 during_true : (a b t : ℕ) → during a b t ≡ true → (a ≤ t) × (t < b)
-during_true a b t e = let p = and_parts (nat_le a t) (nat_lt t b) e in (leb-true a t p.0, ltb-true t b p.1)
+during_true a b t e = (grind (arith, nat_tests), grind (arith, nat_tests))
 
 true_during : (a b t : ℕ) → a ≤ t → t < b → during a b t ≡ true
-true_during a b t h l = and_from (nat_le a t) (nat_lt t b) (le-leb a t h) (lt-ltb t b l)
+true_during a b t h l = grind (arith, nat_tests)
 
 module _ (test : ℕ → Bool) where
   -- what is found is one of the numbers, and passes
-  pub first_passes : (a n c : ℕ) → first test (range_with_len a n) ≡ Some c → (c < a + n) × (test c ≡ true)
-  first_passes a zero c e = absurd (no_some c e)
-  first_passes a (suc n) c e =
-      ⊎_elim
-      (λ t. let i : a ≡ c = (let f = cond-true (test a) (Some a) (first test (range_with_len (a + 1) n)) t in cc) in (omega arith, ap test (sym i) ∙ t))
-      (λ t. let f = cond-false (test a) (Some a) (first test (range_with_len (a + 1) n)) t in
-      let r = first_passes (a + 1) n c (sym f ∙ e) in
-      (omega arith, r.1))
-      (cases_Bool (test a))
+  pub first_passes : (a n c : ℕ) → find test (range_with_len a n) ≡ Some c → (c < a + n) × (test c ≡ true)
+  first_passes a zero c e = cc
+  first_passes a (suc n) c e = let r = first_passes (a + 1) n c in (grind (arith, r), grind (arith, r))
 
   -- if no other passes, one that passes is found
-  pub first_finds : (a n c : ℕ) → a ≤ c → c < a + n → test c ≡ true → ((m : ℕ) → test m ≡ true → m ≡ c) → first test (range_with_len a n) ≡ Some c
+  pub first_finds : (a n c : ℕ) → a ≤ c → c < a + n → test c ≡ true → ((m : ℕ) → test m ≡ true → m ≡ c) → find test (range_with_len a n) ≡ Some c
   first_finds a zero c h l t only = absurd (omega arith)
-  first_finds a (suc n) c h l t only =
-      ⊎_elim (λ u. cond-true (test a) (Some a) (first test (range_with_len (a + 1) n)) u ∙ ap Some (only a u))
-      (λ u. cond-false (test a) (Some a) (first test (range_with_len (a + 1) n)) u
-      ∙ first_finds (a + 1) n c (⊎_elim (λ k. omega arith) (λ k. let e : a ≡ c = omega arith in absurd (both_ways (test a) u (ap test e ∙ t))) (cases_lt a c)) (omega arith) t only)
-      (cases_Bool (test a))
+  first_finds a (suc n) c h l t only = let r = first_finds (a + 1) n c in let o = only a in grind (arith, r, o)
 
 -- months of a year, by column
 module _ (y n t : ℕ) (known : (2000 ≤ y) × (y ≤ 2099)) (few : n ≤ 12) where
@@ -63,17 +52,6 @@ module _ (y n t : ℕ) (known : (2000 ≤ y) × (y ≤ 2099)) (few : n ≤ 12) w
       at_none None e = refl
       at_none (Some m) e = let p = month_place_lem.only m e in h.given m p.0 p.1
 
-  -- the month of a request is its column
-  pub month_found : (m : ℕ) → m < n → InMonth y m t → MonthColumn y n t (Some m)
-  month_found m l i = record {
-    given = λ k h j. ap Some (same_month y m k t i.from i.to j.from j.to);
-    only = λ k e. let f : m ≡ k = cc in (omega arith, rw f at i);
-  }
-
-  -- a request of none of the months has no column
-  pub month_missing : ((m : ℕ) → m < n → InMonth y m t → ⊥) → MonthColumn y n t None
-  month_missing h = record { given = λ m l i. absurd (h m l i); only = λ m e. absurd (no_some m e) }
-
   pub month_below : IfSome (month_place y n t) (λ c. c < n)
   month_below = at (month_place y n t) refl
     where
@@ -94,23 +72,7 @@ module _ (y p : ℕ) where
   dated q = cond (nat_lt q p) (Some (y - p + 1)) (Some (y - q))
 
   publication_only : (k q : ℕ) → publication_place y p q ≡ Some k → ((k ≤ y - p) × (q + k ≡ y)) ⊎ ((k ≡ y - p + 1) × (1 ≤ q) × (q < p))
-  publication_only k q e =
-      ⊎_elim (λ t. absurd (no_some k (sym (cond-true (q == 0 || nat_lt y q) None (dated q) t) ∙ e)))
-      (λ t. let n = or_parts (q == 0) (nat_lt y q) t in
-      let l = ltb-false y q n.1 in
-      let f = sym (cond-false (q == 0 || nat_lt y q) None (dated q) t) ∙ e in
-      ⊎_elim
-      (λ u. let g = sym (cond-true (nat_lt q p) (Some (y - p + 1)) (Some (y - q)) u) ∙ f in
-      let i : y - p + 1 ≡ k = cc in
-      let b = ltb-true q p u in
-      let z = eqb-false q 0 n.0 in
-      inr (omega arith, omega arith, omega arith))
-      (λ u. let g = sym (cond-false (nat_lt q p) (Some (y - p + 1)) (Some (y - q)) u) ∙ f in
-      let i : y - q ≡ k = cc in
-      let b = ltb-false q p u in
-      inl (omega arith, omega arith))
-      (cases_Bool (nat_lt q p)))
-      (cases_Bool (q == 0 || nat_lt y q))
+  publication_only k q e = grind (arith, nat_tests)
 
   module _ (t q : ℕ) (known : (2000 ≤ y) × (y ≤ 2099)) where
     abbrev in_time : Bool
@@ -124,14 +86,10 @@ module _ (y p : ℕ) where
 
     -- a request made in the year has the column of its year of publication
     pub year_within : InYear y t → year_place y p t q ≡ placed
-    year_within i = cond-true in_time placed None (true_during (year_start y) (year_start (y + 1)) t i.from i.to)
-
-    -- and any other has none
-    pub year_without : (InYear y t → ⊥) → year_place y p t q ≡ None
-    year_without h = ⊎_elim (λ t. absurd (h (made_in t))) (λ t. cond-false in_time placed None t) (cases_Bool in_time)
+    year_within i = grind (arith, nat_tests)
 
     made_if : (k : ℕ) → year_place y p t q ≡ Some k → InYear y t
-    made_if k e = ⊎_elim made_in (λ t. absurd (no_some k (sym (cond-false in_time placed None t) ∙ e))) (cases_Bool in_time)
+    made_if k e = made_in (grind arith)
 
     pub year_place_lem : 1 ≤ p → p ≤ y → YearColumn y p t q (year_place y p t q)
     year_place_lem some before = record {

@@ -1,7 +1,7 @@
 //! The calendar of the years 2000 to 2099.
 ghost use Rattle.std.specs.Prelude.{◌≡◌, ◌+◌, ◌%◌, ◌<◌, ◌≤◌};
 ghost use Rattle.std.specs.List.{slice_get};
-ghost use Rattle.columns.specs.Calendar.{days_in, days_in_year, days_of_months, days_of_years, digits, is_date, MonthOf, names};
+ghost use Rattle.columns.specs.Calendar.{days_in, days_in_year, days_of_months, days_of_years, digits, is_date, MonthIn, MonthOf, names};
 
 /// The months' lengths in a common year.
 const LENGTHS: [u8; 12] = [31, 28, 31, 30, 31, 30, 31, 31, 30, 31, 30, 31];
@@ -19,7 +19,7 @@ const DAY: u32 = 86_400;
 const LAST_SECOND: u32 = 3_155_759_999;
 
 /// A month of a year.
-#[derive(Clone, Copy)]
+#[derive(Clone, Copy, Debug, PartialEq, Eq)]
 pub struct Month {
     pub year: u16,
     /// From 0 for January to 11 for December.
@@ -32,12 +32,9 @@ pub struct Month {
 pub fn days_in(year: u16, month: usize) -> u8
     ensures { result ≡ days_in year month }
 {
-    if month >= 12 {
-        0
-    } else if month == 1 && year % 4 == 0 {
-        29
-    } else {
-        LENGTHS[month]
+    match month {
+        1 if year % 4 == 0 => 29,
+        _ => LENGTHS.get(month).copied().unwrap_or(0),
     }
 }
 
@@ -45,31 +42,23 @@ pub fn days_in(year: u16, month: usize) -> u8
 pub fn month_name(month: usize) -> Option<[u8; 3]>
     ensures { result ≡ slice_get names month }
 {
-    if month < 12 { Some(NAMES[month]) } else { None }
+    NAMES.get(month).copied()
 }
 
 /// Whether this is a real date of 2000 to 2099, month and day counted from 1.
 pub fn is_date(year: u16, month: u8, day: u8) -> bool
     ensures { result ≡ is_date year month day }
 {
-    year >= 2000
-        && year <= 2099
-        && month >= 1
-        && month <= 12
-        && day >= 1
-        && day <= days_in(year, usize::from(month) - 1)
+    matches!(year, 2000..=2099)
+        && matches!(month, 1..=12)
+        && (1..=days_in(year, usize::from(month) - 1)).contains(&day)
 }
 
 /// The year's four decimal digits, in ASCII; of a longer number the last four.
 pub fn year_digits(year: u16) -> [u8; 4]
     ensures { result ≡ digits year }
 {
-    [
-        digit(year / 1000),
-        digit(year / 100),
-        digit(year / 10),
-        digit(year),
-    ]
+    [year / 1000, year / 100, year / 10, year].map(digit)
 }
 
 /// The last decimal digit of a number, in ASCII.
@@ -81,6 +70,7 @@ fn digit(n: u16) -> u8
 
 /// The month in which a second falls, counted from 2000-01-01 00:00:00 UTC without leap seconds;
 /// none past the end of 2099.
+#[tactic(auto, using(crate::specs::Days::month_unknown, crate::specs::Days::month_known, crate::specs::Days::month_of_day))]
 pub fn month_of(time: u32) -> Option<Month>
     ensures { MonthOf time result }
 {
@@ -95,9 +85,18 @@ pub fn month_of(time: u32) -> Option<Month>
     })
 }
 
+/// The month of a year in which a second falls; none if it falls in another year.
+pub(crate) fn month_in(year: u16, time: u32) -> Option<usize>
+    ensures { MonthIn year time result }
+{
+    let date = month_of(time)?;
+    (date.year == year).then_some(date.month)
+}
+
 /// The year in which a day falls, as the number of years since 2000, and the day within that year.
 ///
 /// The day counts from the start of 2000. Four years have 1461 days, the first of them the longest.
+#[tactic(auto, using(crate::specs::Days::days_of_years_lem))]
 fn year_of_day(day: u32) -> (u16, u32)
     requires { day < 36525 }
     ensures { (result.0 < 100) × (days_of_years result.0 + result.1 ≡ day) × (result.1 < days_in_year (2000 + result.0)) }
@@ -111,6 +110,8 @@ fn month_of_day(year: u16, day: u32) -> usize
     requires { day < days_in_year year }
     ensures { (result < 12) × (days_of_months year result ≤ day) × (day < days_of_months year (result + 1)) }
 {
+    // A loop, since each month takes its days off what is left for the next: a fold would carry the
+    // same number, and stop at the same month.
     let mut left = day;
     for month in 0..12 {
         let days = u32::from(days_in(year, month));
@@ -119,5 +120,5 @@ fn month_of_day(year: u16, day: u32) -> usize
         }
         left -= days;
     }
-    unreachable()
+    unreachable!()
 }

@@ -2,6 +2,7 @@
 #![tactic(auto)]
 
 mod calendar;
+mod heading;
 mod month_scheme;
 mod period;
 mod scheme;

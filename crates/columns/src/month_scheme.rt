@@ -1,5 +1,5 @@
 //! Columns by month of the request.
-ghost use Rattle.std.specs.Prelude.{◌≡◌, ℕ, ◌<◌, ◌≤◌, [], length, IfOk, IfErr, slice_index_or};
+ghost use Rattle.std.specs.Prelude.{◌≡◌, ℕ, ◌<◌, ◌≤◌, map, length, take, IfOk, IfErr};
 ghost use Rattle.std.specs.Result.{result_err};
 ghost use Rattle.columns.specs.Calendar.{names};
 ghost use Rattle.columns.specs.Layouts.{month_heading, month_layout};
@@ -8,23 +8,23 @@ ghost use Rattle.columns.specs.Places.{MonthColumn, month_place};
 ghost use Rattle.columns.specs.Months.{month_sound, month_length};
 ghost use Rattle.columns.specs.Placing.{month_below};
 
-use crate::calendar::{NAMES, month_of, year_digits};
+use crate::calendar::{NAMES, month_in};
+use crate::heading::dated;
 use crate::period::PeriodRefusal;
 use crate::scheme::ColumnScheme;
 use records::Request;
 
 /// A column for each month of a year, from January to a last month.
 ///
-/// The headings of all twelve months are kept, so that they can be lent.
-#[derive(Clone, Copy)]
+/// The headings of all twelve months are kept, so that they can be lent without a heap.
+#[derive(Clone, Copy, Debug, PartialEq, Eq)]
 pub struct MonthScheme {
     year: u16,
     months: usize,
     headings: [[u8; 8]; 12],
     ghost known: { (2000 ≤ year) × (year ≤ 2099) },
     ghost some: { (1 ≤ months) × (months ≤ 12) },
-    ghost count: { months ≡ length (month_layout year months).headings },
-    ghost kept: { (m : ℕ) → m < months → slice_index_or headings m [] ≡ slice_index_or (month_layout year months).headings m [] },
+    ghost kept: { take months headings ≡ (month_layout year months).headings },
 }
 
 impl MonthScheme {
@@ -37,52 +37,37 @@ impl MonthScheme {
         ensures numbered { IfErr result (λ e. refusal_number e ≡ 9) }
         ensures made { IfOk result (λ s. (s.year ≡ year) × (s.months ≡ last_month)) }
     {
-        if year < 2000 || year > 2099 {
+        if !(2000..=2099).contains(&year) {
             return Err(PeriodRefusal::Year);
         }
-        if last_month < 1 || last_month > 12 {
+        if !(1..=12).contains(&last_month) {
             return Err(PeriodRefusal::LastMonth);
         }
-        Ok(MonthScheme::of(year, last_month))
-    }
-
-    /// The scheme of a period that is in range.
-    fn of(year: u16, months: usize) -> MonthScheme
-        requires { (2000 ≤ year) × (year ≤ 2099) × (1 ≤ months) × (months ≤ 12) }
-        ensures { (result.year ≡ year) × (result.months ≡ months) }
-    {
-        MonthScheme {
+        Ok(MonthScheme {
             year,
-            months,
+            months: last_month,
             headings: month_headings(year),
-        }
-    }
-
-    /// The column of a request made at a second.
-    fn column_at(&self, time: u32) -> Option<usize>
-        ensures place { result ≡ month_place self.now.year self.now.months time }
-        ensures month { MonthColumn self.now.year self.now.months time result }
-    {
-        let date = month_of(time)?;
-        if date.year == self.year && date.month < self.months {
-            Some(date.month)
-        } else {
-            None
-        }
+        })
     }
 }
 
 /// The headings of all months of a year.
 fn month_headings(year: u16) -> [[u8; 8]; 12]
-    ensures { (m : ℕ) → m < 12 → slice_index_or result m [] ≡ month_heading year (slice_index_or names m []) }
+    ensures { result ≡ map (month_heading year) names }
 {
-    let [a, b, c, d] = year_digits(year);
-    let mut headings = [[0; 8]; 12];
-    for month in 0..12 {
-        let [first, second, third] = NAMES[month];
-        headings[month] = [first, second, third, b'-', a, b, c, d];
-    }
-    headings
+    NAMES.map(
+        |name|
+            ensures { result ≡ month_heading year name }
+        { month_heading(name, year) },
+    )
+}
+
+/// The heading of one month.
+fn month_heading(name: [u8; 3], year: u16) -> [u8; 8]
+    ensures { result ≡ month_heading year name }
+{
+    let [a, b, c] = name;
+    dated([a, b, c, b'-', 0, 0, 0, 0], year)
 }
 
 impl ColumnScheme for MonthScheme {
@@ -99,11 +84,8 @@ impl ColumnScheme for MonthScheme {
     }
 
     fn heading(&self, column: usize) -> Option<&[u8]> {
-        if column < self.months {
-            Some(&self.headings[column])
-        } else {
-            None
-        }
+        let heading = self.headings[..self.months].get(column)?;
+        Some(heading)
     }
 
     fn report(&self) -> &[u8] {
@@ -122,6 +104,7 @@ impl ColumnScheme for MonthScheme {
         ensures place { result ≡ month_place self.now.year self.now.months request.now.time }
         ensures month { MonthColumn self.now.year self.now.months request.now.time result }
     {
-        self.column_at(request.time)
+        let month = month_in(self.year, request.time)?;
+        (month < self.months).then_some(month)
     }
 }

@@ -1,5 +1,5 @@
 //! Dates and columns that are known from elsewhere.
-use crate::{ColumnScheme, MonthScheme, PeriodRefusal, YearScheme, is_date, month_of};
+use crate::{ColumnScheme, Month, MonthScheme, PeriodRefusal, YearScheme, is_date, month_of};
 use records::Request;
 use std::test::Fail;
 
@@ -80,14 +80,11 @@ fn request(time: u32, published: u16) -> Request {
 }
 
 #[test]
-fn months_begin_and_end(rt: HostRuntime) -> Result<(), Fail> {
+fn months_begin_and_end(rt: HostRuntime) {
     for (time, year, month) in EDGES {
-        let date = month_of(time).ok_or("a month")?;
-        assert_eq!(rt; date.year, year);
-        assert_eq!(rt; date.month, month);
+        assert_eq!(rt; month_of(time), Some(Month { year, month }));
     }
-    assert!(rt; month_of(3_155_760_000).is_none());
-    Ok(())
+    assert_eq!(rt; month_of(3_155_760_000), None);
 }
 
 #[test]
@@ -99,12 +96,10 @@ fn real_dates(rt: HostRuntime) {
 
 #[test]
 fn january_and_february(rt: HostRuntime) -> Result<(), Fail> {
-    let Ok(scheme) = MonthScheme::new(2009, 2) else {
-        return Err(Fail::new("a scheme"));
-    };
+    let scheme = MonthScheme::new(2009, 2)?;
     assert_eq!(rt; scheme.columns(), 2);
-    assert!(rt; scheme.heading(0).ok_or("a heading")? == b"Jan-2009".as_slice());
-    assert!(rt; scheme.heading(1).ok_or("a heading")? == b"Feb-2009".as_slice());
+    assert!(rt; scheme.heading(0) == Some(b"Jan-2009".as_slice()));
+    assert!(rt; scheme.heading(1) == Some(b"Feb-2009".as_slice()));
     assert!(rt; scheme.heading(2).is_none());
     for (time, column) in TIMES {
         assert_eq!(rt; scheme.column(&request(time, 0)), column);
@@ -114,13 +109,11 @@ fn january_and_february(rt: HostRuntime) -> Result<(), Fail> {
 
 #[test]
 fn five_years_and_before(rt: HostRuntime) -> Result<(), Fail> {
-    let Ok(scheme) = YearScheme::new(2009, 2005) else {
-        return Err(Fail::new("a scheme"));
-    };
+    let scheme = YearScheme::new(2009, 2005)?;
     assert_eq!(rt; scheme.columns(), 6);
-    assert!(rt; scheme.heading(0).ok_or("a heading")? == b"YOP-2009".as_slice());
-    assert!(rt; scheme.heading(4).ok_or("a heading")? == b"YOP-2005".as_slice());
-    assert!(rt; scheme.heading(5).ok_or("a heading")? == b"YOP Pre-2005".as_slice());
+    assert!(rt; scheme.heading(0) == Some(b"YOP-2009".as_slice()));
+    assert!(rt; scheme.heading(4) == Some(b"YOP-2005".as_slice()));
+    assert!(rt; scheme.heading(5) == Some(b"YOP Pre-2005".as_slice()));
     assert!(rt; scheme.heading(6).is_none());
     for (time, published, column) in PUBLISHED {
         assert_eq!(rt; scheme.column(&request(time, published)), column);
@@ -128,40 +121,30 @@ fn five_years_and_before(rt: HostRuntime) -> Result<(), Fail> {
     Ok(())
 }
 
-/// The number of what is refused: 1 year, 2 last month, 3 first year; 0 if nothing is.
-fn refused<T: Drop>(made: Result<T, PeriodRefusal>) -> u8 {
-    match made {
-        Ok(_) => 0,
-        Err(PeriodRefusal::Year) => 1,
-        Err(PeriodRefusal::LastMonth) => 2,
-        Err(PeriodRefusal::FirstYear) => 3,
-    }
-}
-
-/// Years and last months, with the number of what is refused.
-const MONTHS: [(u16, usize, u8); 5] = [
-    (1999, 13, 1),
-    (2100, 1, 1),
-    (2000, 0, 2),
-    (2099, 13, 2),
-    (2099, 12, 0),
+/// Years and last months, with what of them is refused.
+const MONTHS: [(u16, usize, Option<PeriodRefusal>); 5] = [
+    (1999, 13, Some(PeriodRefusal::Year)),
+    (2100, 1, Some(PeriodRefusal::Year)),
+    (2000, 0, Some(PeriodRefusal::LastMonth)),
+    (2099, 13, Some(PeriodRefusal::LastMonth)),
+    (2099, 12, None),
 ];
 
-/// Years and first years of publication, with the number of what is refused.
-const YEARS: [(u16, u16, u8); 5] = [
-    (1999, 1990, 1),
-    (2100, 2096, 1),
-    (2009, 2006, 3),
-    (2009, 1998, 3),
-    (2009, 1999, 0),
+/// Years and first years of publication, with what of them is refused.
+const YEARS: [(u16, u16, Option<PeriodRefusal>); 5] = [
+    (1999, 1990, Some(PeriodRefusal::Year)),
+    (2100, 2096, Some(PeriodRefusal::Year)),
+    (2009, 2006, Some(PeriodRefusal::FirstYear)),
+    (2009, 1998, Some(PeriodRefusal::FirstYear)),
+    (2009, 1999, None),
 ];
 
 #[test]
 fn periods_out_of_range(rt: HostRuntime) {
     for (year, last_month, refusal) in MONTHS {
-        assert_eq!(rt; refused(MonthScheme::new(year, last_month)), refusal);
+        assert_eq!(rt; MonthScheme::new(year, last_month).err(), refusal);
     }
     for (year, first_year, refusal) in YEARS {
-        assert_eq!(rt; refused(YearScheme::new(year, first_year)), refusal);
+        assert_eq!(rt; YearScheme::new(year, first_year).err(), refusal);
     }
 }

@@ -1,5 +1,6 @@
 //! Columns by year of publication.
-ghost use Rattle.std.specs.Prelude.{◌≡◌, ℕ, ◌+◌, ◌-◌, ◌<◌, ◌≤◌, [], length, IfOk, IfErr, slice_index_or};
+ghost use Rattle.std.specs.Prelude.{◌≡◌, ℕ, ◌+◌, ◌-◌, ◌<◌, ◌≤◌, [], ◌∷◌, ◌++◌, map, length, take, IfOk, IfErr};
+ghost use Rattle.std.specs.List.{range_with_len};
 ghost use Rattle.std.specs.Result.{result_err};
 ghost use Rattle.columns.specs.Layouts.{earlier_heading, recent_heading, year_layout};
 ghost use Rattle.columns.specs.Periods.{refusal_number, year_refusal};
@@ -8,16 +9,18 @@ ghost use Rattle.std.proofs.Common.{arith};
 ghost use Rattle.columns.specs.Years.{year_sound, year_length};
 ghost use Rattle.columns.specs.Placing.{year_below};
 
-use crate::calendar::{month_of, year_digits};
+use crate::calendar::month_in;
+use crate::heading::dated;
 use crate::period::PeriodRefusal;
 use crate::scheme::ColumnScheme;
 use records::Request;
+use std::array::from_fn;
 
 /// The requests of a year by year of publication: a column for each year from that year back to a
 /// first one, and one for all earlier years.
 ///
-/// The headings are kept, so that they can be lent.
-#[derive(Clone, Copy)]
+/// The headings are kept, so that they can be lent without a heap.
+#[derive(Clone, Copy, Debug, PartialEq, Eq)]
 pub struct YearScheme {
     year: u16,
     first: u16,
@@ -25,9 +28,7 @@ pub struct YearScheme {
     earlier: [u8; 12],
     ghost known: { (2000 ≤ year) × (year ≤ 2099) },
     ghost span: { (first + 4 ≤ year) × (year ≤ first + 10) },
-    ghost count: { year - first + 2 ≡ length (year_layout year first).headings },
-    ghost kept: { (k : ℕ) → k ≤ year - first → slice_index_or recent k [] ≡ slice_index_or (year_layout year first).headings k [] },
-    ghost last: { earlier ≡ slice_index_or (year_layout year first).headings (year - first + 1) [] },
+    ghost kept: { take (year - first + 1) recent ++ earlier ∷ [] ≡ (year_layout year first).headings },
 }
 
 impl YearScheme {
@@ -41,38 +42,37 @@ impl YearScheme {
         ensures numbered { IfErr result (λ e. refusal_number e ≡ 9) }
         ensures made { IfOk result (λ s. (s.year ≡ year) × (s.first ≡ first_year)) }
     {
-        if year < 2000 || year > 2099 {
+        if !(2000..=2099).contains(&year) {
             return Err(PeriodRefusal::Year);
         }
-        if first_year < year - 10 || first_year > year - 4 {
+        if !(year - 10..=year - 4).contains(&first_year) {
             return Err(PeriodRefusal::FirstYear);
         }
-        Ok(YearScheme::of(year, first_year))
-    }
-
-    /// The scheme of a period that is in range.
-    fn of(year: u16, first: u16) -> YearScheme
-        requires { (2000 ≤ year) × (year ≤ 2099) × (first + 4 ≤ year) × (year ≤ first + 10) }
-        ensures { (result.year ≡ year) × (result.first ≡ first) }
-    {
-        YearScheme {
+        Ok(YearScheme {
             year,
-            first,
+            first: first_year,
             recent: recent_headings(year),
-            earlier: earlier_heading(first),
-        }
+            earlier: earlier_heading(first_year),
+        })
     }
 
-    /// The column of a request made at a second for what was published in a year.
-    fn column_at(&self, time: u32, published: u16) -> Option<usize>
-        ensures place { result ≡ year_place self.now.year self.now.first time published }
-        ensures year { YearColumn self.now.year self.now.first time published result }
+    /// How many years the first one lies before the year.
+    fn span(&self) -> usize
+        ensures { result ≡ self.now.year - self.now.first }
     {
-        let date = month_of(time)?;
-        if date.year == self.year {
-            publication_column(self.year, self.first, published)
-        } else {
+        usize::from(self.year - self.first)
+    }
+
+    /// The column of a year of publication, where 0 is blank.
+    fn publication_column(&self, published: u16) -> Option<usize>
+        ensures { result ≡ publication_place self.now.year self.now.first published }
+    {
+        if published == 0 || published > self.year {
             None
+        } else if published < self.first {
+            Some(self.span() + 1)
+        } else {
+            Some(usize::from(self.year - published))
         }
     }
 }
@@ -80,43 +80,21 @@ impl YearScheme {
 /// The headings of a year and of the ten before it.
 fn recent_headings(year: u16) -> [[u8; 8]; 11]
     requires { 11 ≤ year }
-    ensures { (k : ℕ) → k < 11 → slice_index_or result k [] ≡ recent_heading (year - k) }
+    ensures { result ≡ map (λ k. recent_heading (year - k)) (range_with_len 0 11) }
 {
-    let mut headings = [[0; 8]; 11];
-    for back in 0..11 {
-        headings[back] = recent_heading(year - back as u16);
-    }
-    headings
-}
-
-/// The heading of one year.
-fn recent_heading(year: u16) -> [u8; 8]
-    ensures { result ≡ recent_heading year }
-{
-    let [a, b, c, d] = year_digits(year);
-    [b'Y', b'O', b'P', b'-', a, b, c, d]
+    from_fn(
+        |back|
+            requires { (back < 11) × (11 ≤ year) }
+            ensures { result ≡ recent_heading (year - back) }
+        { dated(*b"YOP-yyyy", year - back as u16) },
+    )
 }
 
 /// The heading of all years before a first one.
 fn earlier_heading(first: u16) -> [u8; 12]
     ensures { result ≡ earlier_heading first }
 {
-    let [a, b, c, d] = year_digits(first);
-    [b'Y', b'O', b'P', b' ', b'P', b'r', b'e', b'-', a, b, c, d]
-}
-
-/// The column of a year of publication, where 0 is blank.
-fn publication_column(year: u16, first: u16, published: u16) -> Option<usize>
-    requires { first ≤ year }
-    ensures { result ≡ publication_place year first published }
-{
-    if published == 0 || published > year {
-        None
-    } else if published < first {
-        Some(usize::from(year - first) + 1)
-    } else {
-        Some(usize::from(year - published))
-    }
+    dated(*b"YOP Pre-yyyy", first)
 }
 
 impl ColumnScheme for YearScheme {
@@ -129,17 +107,15 @@ impl ColumnScheme for YearScheme {
     ghost below = { λ s r. simp (year_length s.year s.first) (year_below s.year s.first r.time r.published s.known (omega arith)) };
 
     fn columns(&self) -> usize {
-        usize::from(self.year - self.first) + 2
+        self.span() + 2
     }
 
     fn heading(&self, column: usize) -> Option<&[u8]> {
-        let span = usize::from(self.year - self.first);
-        if column <= span {
-            Some(&self.recent[column])
-        } else if column == span + 1 {
-            Some(&self.earlier)
-        } else {
-            None
+        let span = self.span();
+        match self.recent[..=span].get(column) {
+            Some(heading) => Some(heading),
+            None if column == span + 1 => Some(&self.earlier),
+            None => None,
         }
     }
 
@@ -159,6 +135,7 @@ impl ColumnScheme for YearScheme {
         ensures place { result ≡ year_place self.now.year self.now.first request.now.time request.now.published }
         ensures year { YearColumn self.now.year self.now.first request.now.time request.now.published result }
     {
-        self.column_at(request.time, request.published)
+        month_in(self.year, request.time)?;
+        self.publication_column(request.published)
     }
 }

@@ -1,5 +1,5 @@
 -- The report of the program jr1, what is found wrong with it where a line is another one, and a report by year.
-use Rattle.std.proofs.Common.{◌≡◌, ℕ, List, [], ◌∷◌, ◌++◌, take, set, Some, None, Ok, Err, codes, Result, refl}
+use Rattle.std.proofs.Common.{◌≡◌, ℕ, List, [], ◌∷◌, ◌++◌, map, take, set, Some, None, Ok, Err, codes, Result, refl}
 use Rattle.std.specs.List.{flat_map}
 use Rattle.columns.specs.Layouts.{month_layout, year_layout}
 use Rattle.titles.specs.Titles.{new_entry}
@@ -45,54 +45,38 @@ read_lines ls = read_file (month_layout 2009 2) (lines_of ls)
 read : read_lines jr1 ≡ Ok kiln
 read = refl
 
--- with another text in the place of a line
-abbrev damaged : ℕ → List ℕ → Result Reading LineFault
-damaged i text = read_lines (set jr1 i text)
-
 empty : read_lines [] ≡ Err (new_fault 1 1 EndOfFile)
 empty = refl
-
-other_report : damaged 0 (codes "Journal Report 1 (R3),Number of Successful Full-text Article Requests by Month and Journal") ≡ Err (new_fault 1 1 WrongText)
-other_report = refl
-
-further_cell : damaged 1 (codes "Test College,") ≡ Err (new_fault 2 2 WrongCellCount)
-further_cell = refl
-
-no_day : damaged 3 (codes "2009-02-29") ≡ Err (new_fault 4 1 WrongText)
-no_day = refl
-
-missing_heading : damaged 4 (codes ",Publisher,Platform,Print ISSN,Online ISSN,Jan-2009,Feb-2009,YTD Total,YTD HTML") ≡ Err (new_fault 5 10 WrongCellCount)
-missing_heading = refl
-
-leading_zero : damaged 5 (codes "Total for all journals,,Host,,,03,1,4,2,2") ≡ Err (new_fault 6 6 WrongNumber)
-leading_zero = refl
-
-not_shared : damaged 5 (codes "Total for all journals,Kiln Press,Host,,,3,1,4,2,2") ≡ Err (new_fault 6 2 WrongText)
-not_shared = refl
-
-wrong_total : damaged 5 (codes "Total for all journals,,Host,,,3,1,5,2,2") ≡ Err (new_fault 6 8 WrongSum)
-wrong_total = refl
 
 no_title : read_lines (take 6 jr1) ≡ Err (new_fault 7 1 EndOfFile)
 no_title = refl
 
-wrong_year : damaged 6 (codes "Kiln Annals,Kiln Press,Host,1000-0003,2000-0006,3,0,4,2,1") ≡ Err (new_fault 7 8 WrongSum)
-wrong_year = refl
-
-wrong_formats : damaged 6 (codes "Kiln Annals,Kiln Press,Host,1000-0003,2000-0006,3,0,3,1,1") ≡ Err (new_fault 7 10 WrongSum)
-wrong_formats = refl
-
-other_platform : damaged 7 (codes "Lock Letters,Lock Press,Hosts,3000-0009,,0,1,1,0,1") ≡ Err (new_fault 8 3 WrongText)
-other_platform = refl
-
-wrong_check : damaged 7 (codes "Lock Letters,Lock Press,Host,3000-0008,,0,1,1,0,1") ≡ Err (new_fault 8 4 WrongText)
-wrong_check = refl
+one_more_line : read_lines (jr1 ++ [] ∷ []) ≡ Err (new_fault 9 1 WrongText)
+one_more_line = refl
 
 cut_short : read_file (month_layout 2009 2) (lines_of (take 7 jr1) ++ codes "Lock Letters,Lock Press,Host,3000-0009,,0,1,1,0,1") ≡ Err (new_fault 8 10 EndOfFile)
 cut_short = refl
 
-one_more_line : read_lines (jr1 ++ [] ∷ []) ≡ Err (new_fault 9 1 WrongText)
-one_more_line = refl
+-- another text for a line, which is counted from 0, and the fault that is then found: the title of another report, a further
+-- cell, no real day, a missing heading, a leading zero, a publisher that not all share, a wrong total, a wrong year to date
+-- by all and by format, another platform, and a wrong check sign
+abbrev damages : List (ℕ × List ℕ × LineFault)
+damages =
+    (0, codes "Journal Report 1 (R3),Number of Successful Full-text Article Requests by Month and Journal", new_fault 1 1 WrongText)
+    ∷ (1, codes "Test College,", new_fault 2 2 WrongCellCount)
+    ∷ (3, codes "2009-02-29", new_fault 4 1 WrongText)
+    ∷ (4, codes ",Publisher,Platform,Print ISSN,Online ISSN,Jan-2009,Feb-2009,YTD Total,YTD HTML", new_fault 5 10 WrongCellCount)
+    ∷ (5, codes "Total for all journals,,Host,,,03,1,4,2,2", new_fault 6 6 WrongNumber)
+    ∷ (5, codes "Total for all journals,Kiln Press,Host,,,3,1,4,2,2", new_fault 6 2 WrongText)
+    ∷ (5, codes "Total for all journals,,Host,,,3,1,5,2,2", new_fault 6 8 WrongSum)
+    ∷ (6, codes "Kiln Annals,Kiln Press,Host,1000-0003,2000-0006,3,0,4,2,1", new_fault 7 8 WrongSum)
+    ∷ (6, codes "Kiln Annals,Kiln Press,Host,1000-0003,2000-0006,3,0,3,1,1", new_fault 7 10 WrongSum)
+    ∷ (7, codes "Lock Letters,Lock Press,Hosts,3000-0009,,0,1,1,0,1", new_fault 8 3 WrongText)
+    ∷ (7, codes "Lock Letters,Lock Press,Host,3000-0008,,0,1,1,0,1", new_fault 8 4 WrongText)
+    ∷ []
+
+faults_found : map (λ d. read_lines (set jr1 d.0 d.1)) damages ≡ map (λ d. Err d.2) damages
+faults_found = refl
 
 -- a report by year: no year to date, and a publisher that all titles share
 abbrev yearly : List (List ℕ)

@@ -1,7 +1,7 @@
 -- A whole file: it is read as a report just where it is the text of that report.
-use Rattle.std.proofs.Common.{◌≡◌, ℕ, ◌≤◌, ◌&&◌, List, [], ◌∷◌, ◌++◌, map, length, Ok, sym, refl, ap, ◌∙◌, subst, append_assoc, arith}
+use Rattle.std.proofs.Common.{◌≡◌, ℕ, ◌≤◌, true, List, [], ◌∷◌, ◌++◌, map, length, Ok, sym, refl, ap, ◌∙◌, subst, append_assoc, arith}
+use Rattle.std.proofs.lemmas.Bool.Decides.{nat_tests}
 use Rattle.std.proofs.lemmas.List.{length-map}
-use Rattle.std.proofs.lemmas.Bool.{and_parts}
 use Rattle.std.specs.List.{flat_map, list_all}
 use Rattle.columns.specs.Layouts as layouts
 use Rattle.columns.specs.Layouts.{Layout}
@@ -9,12 +9,12 @@ use Rattle.reports.proofs.Low.{all_pass_append}
 use Rattle.reports.specs.Reports.{Head, Line, Report, is_low, shown_numbers, totals}
 use Rattle.reports.specs.Written.{heading_line, report_text, title_line}
 use Rattle.cells.specs.Places.{Place, and_then, start}
-use Rattle.cells.proofs.Complete.{text_clean}
+use Rattle.cells.proofs.Judges.{text_clean}
 use Rattle.cells.proofs.Granted.{ok_same, then_ok}
 use Rattle.grammar.specs.Files.{Reading, Top, column_count, head_of, line_of, read_file, reported, rows_at, top_at, totals_against}
 use Rattle.grammar.specs.Lines.{Occasion, Row}
 use Rattle.grammar.specs.Sound.{Exact, SoundReport}
-use Rattle.grammar.proofs.Rows.{good_rows, lines_of_rows, low_lines, row_of, rows_complete, rows_sound, rows_text, shown_in, sound_lines}
+use Rattle.grammar.proofs.Rows.{good_rows, lines_of_rows, low_lines, low_parts, row_of, rows_complete, rows_sound, rows_text, sound_lines}
 use Rattle.grammar.proofs.Sums.{length_sums, publisher_good, shown_for, totals_complete, totals_sound}
 use Rattle.grammar.proofs.Tops.{GoodShown, kind_text, occasion_text, shown_text, top_spell, top_text}
 
@@ -46,22 +46,20 @@ module _ (l : Layout) (file : List ℕ) (layout : layouts.Sound l) where
         let s = totals_sound l t.shown lines shown.2.0 agree in
         let is : t ≡ record { occasion = t.occasion; shown = shown_for l platform lines } = λ i. record { occasion = t.occasion; shown = record { publisher = s.0 i; platform = platform; figures = s.1 i } } in
         let long = length-map rows line_of in
-        let sums = shown_numbers l.ytd (totals (column_count l) lines) in (
+        let figures : list_all is_low (shown_numbers l.ytd (totals (column_count l) lines)) ≡ true = sym (ap (list_all is_low) s.1) ∙ shown.2.1 in
+        let numbers = low_lines l.ytd (column_count l) rows b.2 in (
           record {
             head = record { criteria = occasion.0; platform = shown.1; date = occasion.1 };
             some = omega (arith, b.0);
             most = omega (arith, b.1);
             lines = sound_lines l.ytd (column_count l) rows b.2;
-            low = all_pass_append is_low sums (shown_in l.ytd lines) ∙ (λ i. (sym (ap (list_all is_low) s.1) ∙ shown.2.1) i && low_lines l.ytd (column_count l) rows b.2 i);
+            low = grind (arith, nat_tests, all_pass_append);
           },
           a.2 ∙ ap (λ m. top_text l t ++ m) (b.3 ∙ rows_text l.ytd platform rows) ∙ text_parts l t.occasion platform lines t is,
         )
 
     parts_granted : read_file l file ≡ Ok (record { head = head_of t; rows = rows })
-    parts_granted =
-        ap (λ r. and_then r (λ t. and_then (rows_at 512 l t.0.shown.platform t.1) (λ rows. and_then (totals_against l t.0.shown (map line_of rows)) (λ x. Ok (record { head = head_of t.0; rows = rows }))))) top
-        ∙ ap (λ r. and_then r (λ rows. and_then (totals_against l t.shown (map line_of rows)) (λ x. Ok (record { head = head_of t; rows = rows })))) titles
-        ∙ ap (λ r. and_then r (λ x. Ok (record { head = head_of t; rows = rows }))) agree
+    parts_granted = grind arith
 
   pub file_sound : (rd : Reading) → read_file l file ≡ Ok rd → SoundReport l (reported rd) × (file ≡ report_text l (reported rd))
   file_sound rd h =
@@ -82,8 +80,7 @@ module _ (l : Layout) (file : List ℕ) (layout : layouts.Sound l) where
     parts_complete =
         let platform = head.platform in
         let titles = flat_map (title_line l.ytd platform) (x ∷ xs) in
-        let sums = shown_numbers l.ytd (totals (column_count l) (x ∷ xs)) in
-        let low = and_parts (list_all is_low sums) (list_all is_low (shown_in l.ytd (x ∷ xs))) (sym (all_pass_append is_low sums (shown_in l.ytd (x ∷ xs))) ∙ sound.low) in
+        let low = low_parts l.ytd (column_count l) (x ∷ xs) sound.low in
         let shown : GoodShown l.ytd (column_count l) top.shown = (publisher_good l.ytd (column_count l) (x ∷ xs) sound.lines, sound.head.platform, (length_sums l.ytd (column_count l) (x ∷ xs), low.0)) in
         let a = (top_spell l layout).complete top (start file) titles tt ((sound.head.criteria, sound.head.date), shown) (is ∙ sym (text_parts l top.occasion platform (x ∷ xs) top refl)) in
         let back = lines_of_rows (x ∷ xs) in

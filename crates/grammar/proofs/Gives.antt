@@ -1,48 +1,39 @@
 -- Every sound report is one that the writer gives, so the files that are read are just those that it gives.
-use Rattle.std.proofs.Common.{◌≡◌, ℕ, ◌+◌, ◌*◌, Bool, true, false, List, [], ◌∷◌, map, length, drop, is_ok, None, Ok, Err, sum, Result, sym, refl, ap, ◌∙◌, subst, suc-mul, arith, length-append}
+use Rattle.std.proofs.Common.{◌≡◌, ℕ, ◌+◌, ◌*◌, Bool, true, false, List, [], ◌∷◌, map, length, drop, is_ok, None, Ok, Err, sum, Result, sym, refl, ap, ◌∙◌, subst, suc-mul, arith}
+use Rattle.std.proofs.lemmas.Grind.{common_steps}
+use Rattle.std.proofs.lemmas.Bool.Decides.{nat_tests}
 use Rattle.std.proofs.ByRecursion.{All-append}
-use Rattle.std.proofs.lemmas.List.{drop_at, drop-drop, length-map}
-use Rattle.std.proofs.lemmas.Bool.{and_parts, eq-eqb, false≢true, le-leb}
+use Rattle.std.proofs.lemmas.List.{drop_at, drop-drop}
+use Rattle.std.proofs.lemmas.Bool.{eq-eqb, le-leb}
 use Rattle.std.specs.List.{flat_map, list_all, AllByRecursion}
 use Rattle.columns.specs.Layouts as layouts
 use Rattle.columns.specs.Layouts.{Layout}
 use Rattle.titles.proofs.Fitness.{read_text_lem}
-use Rattle.titles.specs.declared.title.TitleFault.{TitleFault}
-use Rattle.titles.specs.declared.title.TitleFault.TheVariants.{Name, Publisher, Print, Online}
-use Rattle.titles.specs.Texts.{read_text}
-use Rattle.titles.specs.Titles.{Entry, check_issn, judge, unless_fault}
+use Rattle.titles.specs.Titles.{Entry, judge}
 use Rattle.reports.proofs.Low.{all_pass_append}
 use Rattle.reports.specs.declared.refusal.WriteRefusal.TheVariants.{Buffer, CellCount, Criteria, Date, Number, Platform, TitleCount}
 use Rattle.reports.specs.Answers.{Subject, first_ground, grounds, outcome, report_about, text_about, title_ground, titles_ground, unless}
-use Rattle.reports.specs.Reports.{Line, Report, is_low, shown_numbers, table_numbers, totals, ytd_numbers}
+use Rattle.reports.specs.Reports.{Line, Report, is_low, table_numbers}
 use Rattle.reports.specs.Tables.{line_with, lines_from}
 use Rattle.reports.specs.Written.{report_text}
 use Rattle.grammar.specs.Files.{column_count, line_of, read_file, reported}
 use Rattle.grammar.specs.Given.{AcceptedIsGiven, Given}
 use Rattle.grammar.specs.Lines.{Row}
-use Rattle.grammar.specs.Shown.{shown_lines}
+use Rattle.grammar.specs.Shown.{shown_lines, without_year}
 use Rattle.grammar.specs.Sound.{SoundReport}
 use Rattle.grammar.proofs.Files.{file_sound}
 use Rattle.grammar.proofs.Placed.{Formats, Small, columns_placed, html_placed, length_cells, length_placed, pair, pdf_placed, placed, small_cells, small_placed, usage_placed, usage_in}
-use Rattle.grammar.proofs.Rows.{good_rows, lines_of_rows, row_of, shown_in}
+use Rattle.grammar.proofs.Rows.{good_rows, lines_of_rows, low_parts, row_of}
 use Rattle.grammar.proofs.Shows.{numbers_shown, shows_no_more}
 use Rattle.grammar.proofs.Titles.{GoodEntry, GoodRow}
 use Rattle.grammar.proofs.Writes.{check_issn_lem, written_is_read}
 
 -- in a good entry no fault is found
-no_fault : {A B E : Type 0} (which : E → TitleFault) (r : Result A E) (next : Result B TitleFault) → is_ok r ≡ true → unless_fault which r next ≡ next
-no_fault which (Ok x) next fine = refl
-no_fault which (Err fault) next fine = absurd (false≢true fine)
-
 fine_entry : (e : Entry) → GoodEntry e → judge e ≡ Ok e
 fine_entry e good =
-    let online : Result Entry TitleFault = unless_fault Online (check_issn e.online) (Ok e) in
-    let print : Result Entry TitleFault = unless_fault Print (check_issn e.print) online in
-    let publisher : Result Entry TitleFault = unless_fault Publisher (read_text e.publisher) print in
-    no_fault Name (read_text e.name) publisher (read_text_lem e.name ∙ good.0)
-    ∙ no_fault Publisher (read_text e.publisher) print (read_text_lem e.publisher ∙ good.1)
-    ∙ no_fault Print (check_issn e.print) online (check_issn_lem e.print ∙ good.2)
-    ∙ no_fault Online (check_issn e.online) (Ok e) (check_issn_lem e.online ∙ good.3)
+    let name = read_text_lem e.name in
+    let publisher = read_text_lem e.publisher in
+    grind (arith, check_issn_lem)
 
 abbrev entries : List Row → List Entry
 entries rows = map (λ r. r.entry) rows
@@ -62,23 +53,21 @@ module _ (ytd : Bool) (n : ℕ) where
       ap (λ x. title_ground t x (titles_ground (t + 1) (entries rows))) (fine_entry r.entry good.0.0) ∙ no_title (t + 1) rows good.1
 
   length_formats : (r : Row) → GoodRow ytd n r → length (formats r) ≡ n
-  length_formats r good = length_placed r.usage.html r.usage.columns ∙ good.1.0
+  length_formats r good = grind (arith, length_placed)
 
   length_table : (rows : List Row) → AllByRecursion (GoodRow ytd n) rows → length (flat_map formats rows) ≡ length rows * n
   length_table [] good = omega arith
   length_table (r ∷ rows) good =
       let here = length_formats r good.0 in
       let rest = length_table rows good.1 in
-      let both = length-append (formats r) (flat_map formats rows) in
-      let more = suc-mul (length rows) n in
-      omega arith
+      grind (arith, common_steps, suc-mul)
 
   small_table : (rows : List Row) → AllByRecursion (GoodRow ytd n) rows → AllByRecursion Small (flat_map formats rows)
   small_table [] good = tt
   small_table (r ∷ rows) good =
-      let u = r.usage in
-      let low = and_parts (list_all is_low u.columns) (list_all is_low (ytd_numbers ytd u)) (sym (all_pass_append is_low u.columns (ytd_numbers ytd u)) ∙ good.0.1.2) in
-      All-append Small (formats r) (flat_map formats rows) (small_placed u.html u.columns low.0) (small_table rows good.1)
+      let shown = good.0.1.2 in
+      let low : list_all is_low r.usage.columns ≡ true = grind (arith, nat_tests, all_pass_append) in
+      All-append Small (formats r) (flat_map formats rows) (small_placed r.usage.html r.usage.columns low) (small_table rows good.1)
 
   -- the lines of the table, from title t on
   lines_placed : (fs : List Formats) (t : ℕ) (rows : List Row) → AllByRecursion (GoodRow ytd n) rows → drop (t * n) fs ≡ flat_map formats rows → lines_from (flat_map pair fs) n t (entries rows) ≡ map placed_line rows
@@ -92,19 +81,21 @@ module _ (ytd : Bool) (n : ℕ) where
       λ i. line_with r.entry (here i) ∷ lines_placed fs (t + 1) rows good.1 rest i
 
 -- so far as they are shown, they are those of the report
+year_placed : (n : ℕ) (r : Row) → GoodRow true n r → usage_in (formats r) ≡ r.usage
+year_placed n r good =
+    let year : r.usage.html + r.usage.pdf ≡ sum r.usage.columns = good.1.1 in
+    let html = html_placed r.usage.html r.usage.columns (omega arith) in
+    let pdf = pdf_placed r.usage.html r.usage.pdf r.usage.columns year in
+    grind (arith, columns_placed)
+
+unshown_placed : (n : ℕ) (r : Row) → GoodRow false n r → without_year (placed_line r) ≡ line_of r
+unshown_placed n r good = grind (arith, columns_placed)
+
 shown_placed : (ytd : Bool) (n : ℕ) (rows : List Row) → AllByRecursion (GoodRow ytd n) rows → shown_lines ytd (map placed_line rows) ≡ map line_of rows
 shown_placed true n [] good = refl
-shown_placed true n (r ∷ rows) good =
-    let u = r.usage in
-    let year : u.html + u.pdf ≡ sum u.columns = good.0.1.1 in
-    let html = html_placed u.html u.columns (omega arith) in
-    let pdf = pdf_placed u.html u.pdf u.columns year in
-    λ i. line_with r.entry (record { columns = columns_placed u.html u.columns i; html = html i; pdf = pdf i }) ∷ shown_placed true n rows good.1 i
+shown_placed true n (r ∷ rows) good = λ i. line_with r.entry (year_placed n r good.0 i) ∷ shown_placed true n rows good.1 i
 shown_placed false n [] good = refl
-shown_placed false n (r ∷ rows) good =
-    let u = r.usage in
-    let year : (u.html ≡ 0) × (u.pdf ≡ 0) = good.0.1.1 in
-    λ i. line_with r.entry (record { columns = columns_placed u.html u.columns i; html = sym year.0 i; pdf = sym year.1 i }) ∷ shown_placed false n rows good.1 i
+shown_placed false n (r ∷ rows) good = λ i. unshown_placed n r good.0 i ∷ shown_placed false n rows good.1 i
 
 -- what the writer is given, to give a report
 module _ (l : Layout) (r : Report) (sound : SoundReport l r) where
@@ -119,8 +110,7 @@ module _ (l : Layout) (r : Report) (sound : SoundReport l r) where
 
   good : AllByRecursion (GoodRow l.ytd (column_count l)) rows
   good =
-      let sums = shown_numbers l.ytd (totals (column_count l) r.lines) in
-      let low = and_parts (list_all is_low sums) (list_all is_low (shown_in l.ytd r.lines)) (sym (all_pass_append is_low sums (shown_in l.ytd r.lines)) ∙ sound.low) in
+      let low = low_parts l.ytd (column_count l) r.lines sound.low in
       good_rows l.ytd (column_count l) r.lines sound.lines low.1
 
   same_lines : shown_lines l.ytd (report_about subject).lines ≡ r.lines
@@ -132,15 +122,14 @@ module _ (l : Layout) (r : Report) (sound : SoundReport l r) where
   same_text : text_about subject ≡ report_text l r
   same_text = sym (shows_no_more l (report_about subject)) ∙ (λ i. report_text l (record { head = r.head; lines = same_lines i }))
 
-  length_rows : length rows ≡ length r.lines
-  length_rows = length-map r.lines row_of
-
   length_entries : length (entries rows) ≡ length r.lines
-  length_entries = length-map rows (λ (x : Row). x.entry) ∙ length_rows
+  length_entries = grind (arith, common_steps)
 
   table_fits : length (flat_map pair table) ≡ length r.lines * column_count l * 2
   table_fits =
-      length_cells table ∙ ap (λ k. k * 2) (length_table l.ytd (column_count l) rows good ∙ ap (λ k. k * column_count l) length_rows)
+      let cells = length_cells table in
+      let long = length_table l.ytd (column_count l) rows good in
+      grind (arith, common_steps)
 
   are_low_lem : list_all is_low (table_numbers l.ytd (column_count l) (report_about subject).lines) ≡ true
   are_low_lem =
@@ -175,7 +164,7 @@ module _ (l : Layout) (r : Report) (sound : SoundReport l r) where
 
 was_read : {A E : Type 0} (r : Result A E) → is_ok r ≡ true → (x : A) × (r ≡ Ok x)
 was_read (Ok x) e = (x, refl)
-was_read (Err fault) e = absurd (false≢true e)
+was_read (Err fault) e = cc
 
 pub accepted_is_given : AcceptedIsGiven
 accepted_is_given l file layout = (accepted, given)

@@ -1,11 +1,13 @@
 -- Rows of numbers.
-use Rattle.std.proofs.Common.{◌≡◌, ℕ, zero, suc, ◌≤◌, Bool, true, false, ◌&&◌, eqb, List, [], ◌∷◌, ◌++◌, map, length, decimal, sym, refl, ap, ◌∙◌, append_assoc, append-nil, arith}
-use Rattle.std.proofs.lemmas.Bool.{and_from, and_parts, eq-eqb, ne_eqb}
+use Rattle.std.proofs.Common.{◌≡◌, ℕ, zero, suc, ◌≤◌, Bool, true, false, ◌&&◌, eqb, List, [], ◌∷◌, ◌++◌, map, length, decimal, sym, refl, ap, arith}
+use Rattle.std.proofs.lemmas.Grind.{common_steps}
+use Rattle.std.proofs.lemmas.Bool.{eq-eqb, ne_eqb}
 use Rattle.std.specs.List.{list_all}
 use Rattle.reports.specs.Reports.{is_low}
 use Rattle.cells.specs.Cells.{end_text}
+use Rattle.cells.proofs.Judges.{number_judge}
 use Rattle.grammar.specs.Lines.{none, numbers_at}
-use Rattle.grammar.proofs.Cells.{ended, number_cell}
+use Rattle.grammar.proofs.Cells.{cell, ended}
 use Rattle.grammar.proofs.Spelling.{Anything, Spells, close, follow, give, restate}
 
 -- a row of so many numbers that may be shown
@@ -24,23 +26,17 @@ abbrev Nonempty : List ℕ → Type 0
 Nonempty ns = 1 ≤ length ns
 
 only_so : (n : ℕ) (ns v : List ℕ) → tail_of v ≡ ns → head_of v ≡ n → Nonempty v → v ≡ n ∷ ns
-only_so n ns [] t h some = absurd (omega arith)
-only_so n ns (w ∷ ws) t h some = λ i. h i ∷ t i
+only_so n ns v t h some = grind (arith, common_steps)
 
 -- one number more
 abbrev Grown : ℕ → List ℕ → Type 0
 Grown m v = Nonempty v × ((is_low (head_of v) ≡ true) × (Figures m (tail_of v) × Unit {0}))
 
 grown_up : (m : ℕ) (v : List ℕ) → Grown m v → Figures (suc m) v
-grown_up m [] g = absurd (omega (arith, g.0))
-grown_up m (n ∷ ns) g = (ap suc g.1.1.0.0, and_from (is_low n) (list_all is_low ns) g.1.0 g.1.1.0.1)
+grown_up m v g = grind (arith, common_steps)
 
 grown_down : (m : ℕ) (v : List ℕ) → Figures (suc m) v → Grown m v
-grown_down m [] f = absurd (omega (arith, f.0))
-grown_down m (n ∷ ns) f =
-    let low = and_parts (is_low n) (list_all is_low ns) f.1 in
-    let long : suc (length ns) ≡ suc m = f.0 in
-    (omega arith, (low.0, ((omega arith, low.1), tt)))
+grown_down m v f = grind (arith, common_steps)
 
 last_number : (ns : List ℕ) (m : ℕ) → length ns ≡ m → eqb m 0 ≡ none (map decimal ns)
 last_number [] m long = eq-eqb m 0 (omega arith)
@@ -50,13 +46,11 @@ numbers_text : (ends : Bool) (m : ℕ) (v : List ℕ) → Figures (suc m) v → 
 numbers_text ends m [] f = absurd (omega (arith, f.0))
 numbers_text ends m (n ∷ ns) f =
     let long : suc (length ns) ≡ suc m = f.0 in
-    append_assoc (decimal n) (end_text (ends && eqb m 0)) (ended ends (map decimal ns) ++ [])
-    ∙ ap (λ l. decimal n ++ (end_text (ends && eqb m 0) ++ l)) (append-nil (ended ends (map decimal ns)))
-    ∙ ap (λ t. decimal n ++ (end_text (ends && t) ++ ended ends (map decimal ns))) (last_number ns m (omega arith))
+    let last = last_number ns m (omega arith) in
+    grind (arith, common_steps)
 
 nothing : (v : List ℕ) → length v ≡ 0 → v ≡ []
-nothing [] e = refl
-nothing (n ∷ ns) e = absurd (omega arith)
+nothing v e = grind (arith, common_steps)
 
 pub numbers_spell : (ends : Bool) (n : ℕ) → Spells (numbers_at ends n) Anything (Figures n) (λ ns. ended ends (map decimal ns))
 numbers_spell ends zero =
@@ -64,8 +58,7 @@ numbers_spell ends zero =
     (close (give {Known = λ v. v ≡ []} [] refl (λ w k. k)))
 numbers_spell ends (suc m) =
     restate (grown_up m) (grown_down m) (numbers_text ends m)
-    (close {Known = Nonempty} (follow head_of (number_cell (ends && eqb m 0)) (λ n low. follow tail_of (numbers_spell ends m) (λ ns good. give (n ∷ ns) (refl, (refl, (omega arith))) (λ v k. only_so n ns v k.0 k.1.0 k.1.1)))))
+    (close {Known = Nonempty} (follow head_of (cell number_judge (ends && eqb m 0)) (λ n low. follow tail_of (numbers_spell ends m) (λ ns good. give (n ∷ ns) (refl, (refl, (omega arith))) (λ v k. only_so n ns v k.0 k.1.0 k.1.1)))))
 
 pub some_figures : (ns : List ℕ) (m : ℕ) → 1 ≤ m → length ns ≡ m → none (map decimal ns) ≡ false
-some_figures [] m some long = absurd (omega arith)
-some_figures (n ∷ ns) m some long = refl
+some_figures ns m some long = grind (arith, common_steps)

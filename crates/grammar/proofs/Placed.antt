@@ -1,11 +1,11 @@
 -- A count table from the numbers that a report shows: each column's number is placed under HTML until the year to date by
 -- HTML is made up, and then under PDF.
 use Rattle.std.proofs.Common.{◌≡◌, ℕ, zero, suc, ◌+◌, ◌-◌, ◌*◌, ◌^◌, ◌<◌, ◌≤◌, true, List, [], ◌∷◌, ◌++◌, map, length, get_or, drop, sum_by, sum, sym, refl, ap, ◌∙◌, arith}
+use Rattle.std.proofs.lemmas.Grind.{common_steps}
+use Rattle.std.proofs.lemmas.Bool.Decides.{nat_tests}
 use mathlib.Core.List.{map-map}
 use Rattle.std.proofs.lemmas.List.FromFn.{fill_by_all}
 use Rattle.std.proofs.lemmas.List.{get_or_append_left, get_or-drop}
-use Rattle.std.proofs.lemmas.List.Sums.{sum-map, sum_by-cons}
-use Rattle.std.proofs.lemmas.Bool.{and_parts, leb-true}
 use Rattle.std.specs.List.{range_with_len, flat_map, list_all, AllByRecursion}
 use Rattle.reports.specs.Reports.{Usage, is_low}
 use Rattle.reports.specs.Tables.{html_at, pdf_at, usage_by}
@@ -37,30 +37,20 @@ usage_in fs = record {
 
 pub length_placed : (h : ℕ) (cs : List ℕ) → length (placed h cs) ≡ length cs
 length_placed h [] = refl
-length_placed h (c ∷ cs) = ap suc (length_placed (h - c) cs)
+length_placed h (c ∷ cs) = grind (arith, length_placed (h - c) cs)
 
 pub columns_placed : (h : ℕ) (cs : List ℕ) → (usage_in (placed h cs)).columns ≡ cs
 columns_placed h [] = refl
-columns_placed h (c ∷ cs) =
-    let here : c - (c - h) + (c - h) ≡ c = omega arith in
-    λ i. here i ∷ columns_placed (h - c) cs i
+columns_placed h (c ∷ cs) = grind (arith, columns_placed (h - c) cs)
 
 -- all is placed, where the columns make up no less
 pub html_placed : (h : ℕ) (cs : List ℕ) → h ≤ sum cs → (usage_in (placed h cs)).html ≡ h
 html_placed h [] most = omega arith
-html_placed h (c ∷ cs) most =
-    let total = sum_by-cons (λ (x : ℕ). x) c cs in
-    let own = sum_by-cons (λ (f : Formats). f.html) (record { html = c - (c - h); pdf = c - h }) (placed (h - c) cs) in
-    let rest = html_placed (h - c) cs (omega arith) in
-    omega arith
+html_placed h (c ∷ cs) most = grind (arith, common_steps, html_placed (h - c) cs)
 
 pub pdf_placed : (h p : ℕ) (cs : List ℕ) → h + p ≡ sum cs → (usage_in (placed h cs)).pdf ≡ p
 pdf_placed h p [] all = omega arith
-pdf_placed h p (c ∷ cs) all =
-    let total = sum_by-cons (λ (x : ℕ). x) c cs in
-    let own = sum_by-cons (λ (f : Formats). f.pdf) (record { html = c - (c - h); pdf = c - h }) (placed (h - c) cs) in
-    let rest = pdf_placed (h - c) (p - (c - h)) cs (omega arith) in
-    omega arith
+pdf_placed h p (c ∷ cs) all = grind (arith, common_steps, pdf_placed (h - c) (p - (c - h)) cs)
 
 abbrev pub Small : Formats → Type 0
 Small f = (f.html < 2 ^ 32) × (f.pdf < 2 ^ 32)
@@ -68,10 +58,7 @@ Small f = (f.html < 2 ^ 32) × (f.pdf < 2 ^ 32)
 -- a number that may be shown fits a cell
 pub small_placed : (h : ℕ) (cs : List ℕ) → list_all is_low cs ≡ true → AllByRecursion Small (placed h cs)
 small_placed h [] low = tt
-small_placed h (c ∷ cs) low =
-    let both = and_parts (is_low c) (list_all is_low cs) low in
-    let here = leb-true c 1000000000 both.0 in
-    ((omega arith, omega arith), small_placed (h - c) cs both.1)
+small_placed h (c ∷ cs) low = ((grind (arith, nat_tests), grind (arith, nat_tests)), small_placed (h - c) cs (grind (arith, nat_tests)))
 
 pub small_cells : (fs : List Formats) → AllByRecursion Small fs → AllByRecursion (λ c. c < 2 ^ 32) (flat_map pair fs)
 small_cells [] small = tt
@@ -79,25 +66,21 @@ small_cells (f ∷ fs) small = (small.0.0, (small.0.1, small_cells fs small.1))
 
 pub length_cells : (fs : List Formats) → length (flat_map pair fs) ≡ length fs * 2
 length_cells [] = refl
-length_cells (f ∷ fs) = let rest = length_cells fs in omega arith
+length_cells (f ∷ fs) = grind (arith, length_cells fs)
 
 -- the cells of a table, two by two
 html_cell : (fs : List Formats) (i : ℕ) → get_or (flat_map pair fs) (i * 2) 0 ≡ (get_or fs i nothing).html
 html_cell [] i = refl
 html_cell (f ∷ fs) zero = refl
-html_cell (f ∷ fs) (suc i) =
-    let at : suc i * 2 ≡ suc (suc (i * 2)) = omega arith in
-    ap (λ k. get_or (flat_map pair (f ∷ fs)) k 0) at ∙ html_cell fs i
+html_cell (f ∷ fs) (suc i) = grind (arith, html_cell fs i)
 
 pdf_cell : (fs : List Formats) (i : ℕ) → get_or (flat_map pair fs) (i * 2 + 1) 0 ≡ (get_or fs i nothing).pdf
 pdf_cell [] i = refl
 pdf_cell (f ∷ fs) zero = refl
-pdf_cell (f ∷ fs) (suc i) =
-    let at : suc i * 2 + 1 ≡ suc (suc (i * 2 + 1)) = omega arith in
-    ap (λ k. get_or (flat_map pair (f ∷ fs)) k 0) at ∙ pdf_cell fs i
+pdf_cell (f ∷ fs) (suc i) = grind (arith, pdf_cell fs i)
 
 sum_by_map : {X Y : Type 0} (g : Y → ℕ) (f : X → Y) (xs : List X) → sum_by g (map f xs) ≡ sum_by (λ x. g (f x)) xs
-sum_by_map g f xs = sym (sum-map g (map f xs)) ∙ ap sum (map-map g f xs) ∙ sum-map (λ x. g (f x)) xs
+sum_by_map g f xs = grind (arith, common_steps)
 
 -- what a table says of title t, whose n columns stand in it at their place
 module _ (fs : List Formats) (n t : ℕ) (row rest : List Formats) (long : length row ≡ n) (stands : drop (t * n) fs ≡ row ++ rest) where
@@ -106,10 +89,11 @@ module _ (fs : List Formats) (n t : ℕ) (row rest : List Formats) (long : lengt
 
   column : (c : ℕ) → c < n → get_or row c nothing ≡ said c
   column c h =
+      let html = html_cell fs (t * n + c) in
+      let pdf = pdf_cell fs (t * n + c) in
       let here = get_or_append_left row rest nothing c (omega arith) in
       let there = get_or-drop (t * n) fs c nothing in
-      let same : get_or row c nothing ≡ get_or fs (t * n + c) nothing = sym here ∙ ap (λ l. get_or l c nothing) (sym stands) ∙ there in
-      same ∙ (λ i. record { html = sym (html_cell fs (t * n + c)) i; pdf = sym (pdf_cell fs (t * n + c)) i })
+      grind arith
 
   pub usage_placed : usage_by (html_at (flat_map pair fs) n t) (pdf_at (flat_map pair fs) n t) n ≡ usage_in row
   usage_placed =

@@ -1,19 +1,19 @@
 -- The titles' lines to the end of the file, as rows and as lines of a report.
-use Rattle.std.proofs.Common.{◌≡◌, ℕ, zero, suc, ◌≤◌, Bool, true, false, cond, ◌&&◌, List, [], ◌∷◌, ◌++◌, map, length, Some, None, Ok, decimal, Option, sym, refl, ap, ◌∙◌, subst, arith}
-use Rattle.std.proofs.lemmas.Bool.{and_parts, false≢true, or_right, true≢false}
+use Rattle.std.proofs.Common.{◌≡◌, ℕ, zero, suc, ◌≤◌, Bool, true, false, cond, List, [], ◌∷◌, ◌++◌, map, length, Some, None, Ok, decimal, Option, refl, ap, ◌∙◌, subst, arith}
+use Rattle.std.proofs.lemmas.Grind.{common_steps}
+use Rattle.std.proofs.lemmas.Bool.Decides.{nat_tests}
 use Rattle.std.specs.List.{flat_map, list_all, AllByRecursion}
 use Rattle.columns.specs.Layouts.{Layout}
 use Rattle.titles.specs.declared.issn.Issn.{Issn}
-use Rattle.titles.specs.Issns.{is_issn}
 use Rattle.titles.specs.Titles.{Entry, is_blank_or_issn, issn_bytes, new_entry}
 use Rattle.reports.proofs.Low.{all_pass_append}
-use Rattle.reports.specs.Reports.{Line, Usage, is_low, shown_numbers}
+use Rattle.reports.specs.Reports.{Line, Usage, is_low, shown_numbers, table_numbers, totals}
 use Rattle.reports.specs.Tables.{line_with}
-use Rattle.reports.specs.Written.{line_end, line_text, next_cell, title_line}
+use Rattle.reports.specs.Written.{line_text, title_line}
 use Rattle.cells.specs.Cells.{is_nil}
 use Rattle.cells.specs.Places.{Place, and_then}
-use Rattle.cells.proofs.Granted.{no_ok, ok_same, then_ok}
-use Rattle.cells.proofs.Complete.{Clean}
+use Rattle.cells.proofs.Granted.{ok_same, then_ok}
+use Rattle.cells.proofs.Reading.{Clean}
 use Rattle.grammar.specs.Files.{column_count, line_of, rows_at}
 use Rattle.grammar.specs.Lines.{Row, row_at}
 use Rattle.grammar.specs.Sound.{SoundLine, SoundYear, is_blank_or_right}
@@ -21,19 +21,17 @@ use Rattle.grammar.proofs.Spelling.{Anything, Spells}
 use Rattle.grammar.proofs.Titles.{GoodEntry, GoodRow, row_spell, row_text}
 
 nil_is : (l : List ℕ) → is_nil l ≡ true → l ≡ []
-nil_is [] e = refl
-nil_is (b ∷ l) e = absurd (false≢true e)
+nil_is l e = grind arith
 
 some_behind : (a b : List ℕ) → is_nil b ≡ false → is_nil (a ++ b) ≡ false
 some_behind [] b e = e
 some_behind (x ∷ a) b e = refl
 
 some_before : (a b : List ℕ) → is_nil a ≡ false → is_nil (a ++ b) ≡ false
-some_before [] b e = absurd (true≢false e)
-some_before (x ∷ a) b e = refl
+some_before a b e = grind (arith, common_steps)
 
 some_line : (first : List ℕ) (others : List (List ℕ)) → is_nil (line_text first others) ≡ false
-some_line first others = some_behind first (flat_map next_cell others ++ line_end) (some_behind (flat_map next_cell others) line_end refl)
+some_line first others = grind (arith, some_behind)
 
 -- a row is never without bytes
 some_row : (ytd : Bool) (platform : List ℕ) (r : Row) (m : List ℕ) → is_nil (row_text ytd platform r ++ m) ≡ false
@@ -59,7 +57,7 @@ module _ (l : Layout) (platform : List ℕ) (some : 1 ≤ column_count l) (clean
       subst (GoodRows (suc room) p) (ok_same (r ∷ a.0) rows a.2) (omega arith, omega arith, (good, s.2), text ∙ ap (λ m. row_text l.ytd platform r ++ m) s.3)
 
   pub rows_sound : (room : ℕ) (p : Place) (rows : List Row) → rows_at room l platform p ≡ Ok rows → GoodRows room p rows
-  rows_sound zero p rows h = absurd (no_ok _ _ h)
+  rows_sound zero p rows h = cc
   rows_sound (suc room) p rows h =
       let a = then_ok (row_at l.ytd (column_count l) platform p) (λ x. cond (is_nil x.1.rest) (Ok (x.0 ∷ [])) (and_then (rows_at room l platform x.1) (λ rows. Ok (x.0 ∷ rows)))) rows h in
       let s = row_spells.sound p a.0 a.1 in
@@ -68,15 +66,13 @@ module _ (l : Layout) (platform : List ℕ) (some : 1 ≤ column_count l) (clean
   pub rows_complete : (room : ℕ) (p : Place) (r : Row) (rows : List Row) → length rows ≤ room → AllByRecursion (GoodRow l.ytd (column_count l)) (r ∷ rows) → p.rest ≡ flat_map (row_text l.ytd platform) (r ∷ rows) → rows_at (suc room) l platform p ≡ Ok (r ∷ rows)
   rows_complete room p r [] most good e =
       let a = row_spells.complete r p [] tt good.0 e in
-      ap (λ x. and_then x (λ x. cond (is_nil x.1.rest) (Ok (x.0 ∷ [])) (and_then (rows_at room l platform x.1) (λ rows. Ok (x.0 ∷ rows))))) a.1
-      ∙ ap (λ m. cond (is_nil m) (Ok (r ∷ [])) (and_then (rows_at room l platform a.0) (λ rows. Ok (r ∷ rows)))) a.2
+      grind arith
   rows_complete zero p r (s ∷ rows) most good e = absurd (omega arith)
   rows_complete (suc room) p r (s ∷ rows) most good e =
       let a = row_spells.complete r p (flat_map (row_text l.ytd platform) (s ∷ rows)) tt good.0 e in
       let b = rows_complete room a.0 s rows (omega arith) good.1 a.2 in
-      ap (λ x. and_then x (λ x. cond (is_nil x.1.rest) (Ok (x.0 ∷ [])) (and_then (rows_at (suc room) l platform x.1) (λ rows. Ok (x.0 ∷ rows))))) a.1
-      ∙ ap (λ t. cond t (Ok (r ∷ [])) (and_then (rows_at (suc room) l platform a.0) (λ rows. Ok (r ∷ rows)))) (ap is_nil a.2 ∙ some_row l.ytd platform s (flat_map (row_text l.ytd platform) rows))
-      ∙ ap (λ x. and_then x (λ rows. Ok (r ∷ rows))) b
+      let more = some_row l.ytd platform s (flat_map (row_text l.ytd platform) rows) in
+      grind arith
 
 -- an ISSN from the bytes that show it
 abbrev issn_from : List ℕ → Option Issn
@@ -92,16 +88,14 @@ issn_right [] = refl
 issn_right (b ∷ bs) = refl
 
 right_issn : (issn : Option Issn) → is_blank_or_issn issn ≡ true → is_blank_or_right (issn_bytes issn) ≡ true
-right_issn None e = refl
-right_issn (Some issn) e = or_right (is_nil issn.bytes) (is_issn issn.bytes) e
+right_issn issn e = grind (arith, nat_tests)
 
 -- the row that a line is read as
 abbrev pub row_of : Line → Row
 row_of l = record { entry = new_entry l.name l.publisher (issn_from l.print) (issn_from l.online); usage = l.usage }
 
 line_of_row : (l : Line) → line_of (row_of l) ≡ l
-line_of_row l =
-    λ i. record { name = l.name; publisher = l.publisher; print = issn_shown l.print i; online = issn_shown l.online i; usage = l.usage }
+line_of_row l = grind (arith, issn_shown)
 
 pub lines_of_rows : (ls : List Line) → map line_of (map row_of ls) ≡ ls
 lines_of_rows [] = refl
@@ -129,12 +123,16 @@ module _ (ytd : Bool) where
 
     pub low_lines : (rows : List Row) → AllByRecursion (GoodRow ytd n) rows → list_all is_low (shown_in (map line_of rows)) ≡ true
     low_lines [] good = refl
-    low_lines (r ∷ rows) good =
-        all_pass_append is_low (shown_numbers ytd r.usage) (shown_in (map line_of rows)) ∙ (λ i. good.0.1.2 i && low_lines rows good.1 i)
+    low_lines (r ∷ rows) good = let here = good.0.1.2 in let rest = low_lines rows good.1 in grind (arith, nat_tests, all_pass_append)
 
     pub good_rows : (ls : List Line) → AllByRecursion (SoundLine ytd n) ls → list_all is_low (shown_in ls) ≡ true → AllByRecursion (GoodRow ytd n) (map row_of ls)
     good_rows [] sound low = tt
     good_rows (l ∷ ls) sound low =
         let s = sound.0 in
-        let p = and_parts (list_all is_low (shown_numbers ytd l.usage)) (list_all is_low (shown_in ls)) (sym (all_pass_append is_low (shown_numbers ytd l.usage) (shown_in ls)) ∙ low) in
-        (((s.name, s.publisher, issn_right l.print ∙ s.print, issn_right l.online ∙ s.online), (s.columns, s.year, p.0)), good_rows ls sound.1 p.1)
+        let here : list_all is_low (shown_numbers ytd l.usage) ≡ true = grind (arith, nat_tests, all_pass_append) in
+        let rest : list_all is_low (shown_in ls) ≡ true = grind (arith, nat_tests, all_pass_append) in
+        (((s.name, s.publisher, issn_right l.print ∙ s.print, issn_right l.online ∙ s.online), (s.columns, s.year, here)), good_rows ls sound.1 rest)
+
+    -- the numbers of line 6, and those of the titles' lines
+    pub low_parts : (ls : List Line) → list_all is_low (table_numbers ytd n ls) ≡ true → (list_all is_low (shown_numbers ytd (totals n ls)) ≡ true) × (list_all is_low (shown_in ls) ≡ true)
+    low_parts ls low = grind (arith, nat_tests, all_pass_append)

@@ -1,8 +1,7 @@
 -- A report's text shows no more of it than it should.
-use Rattle.std.proofs.Common.{◌≡◌, ℕ, Bool, true, false, List, [], ◌∷◌, ◌++◌, map, length, get_or, codes, sum, sym, refl, ap, ◌∙◌}
+use Rattle.std.proofs.Common.{◌≡◌, ℕ, Bool, true, false, List, [], ◌∷◌, ◌++◌, map, length, codes, refl, ap, arith}
+use Rattle.std.proofs.lemmas.Grind.{common_steps}
 use mathlib.Core.List.{map-map}
-use Rattle.std.proofs.lemmas.List.{length-map}
-use Rattle.std.proofs.lemmas.List.Sums.{sum-map}
 use Rattle.std.specs.List.{range_with_len, flat_map}
 use Rattle.columns.specs.Layouts.{Layout}
 use Rattle.reports.specs.Reports.{Line, Report, column_sum, shared, shown_numbers, table_numbers, totals}
@@ -10,20 +9,17 @@ use Rattle.reports.specs.Written.{front_text, heading_line, report_text, title_l
 use Rattle.grammar.specs.Shown.{shown_lines, shown_of, without_year}
 
 column_kept : (ls : List Line) (c : ℕ) → column_sum (map without_year ls) c ≡ column_sum ls c
-column_kept ls c =
-    let here : Line → ℕ = λ l. get_or l.usage.columns c 0 in
-    sym (sum-map here (map without_year ls)) ∙ ap sum (map-map here without_year ls) ∙ sum-map here ls
+column_kept ls c = grind (arith, common_steps)
 
 pub columns_kept : (n : ℕ) (ls : List Line) → (totals n (map without_year ls)).columns ≡ (totals n ls).columns
 columns_kept n ls = λ i. map (λ c. column_kept ls c i) (range_with_len 0 n)
 
 joined_kept : (f : Line → List ℕ) → ((l : Line) → f (without_year l) ≡ f l) → (ls : List Line) → flat_map f (map without_year ls) ≡ flat_map f ls
 joined_kept f same [] = refl
-joined_kept f same (l ∷ ls) = λ i. same l i ++ joined_kept f same ls i
+joined_kept f same (l ∷ ls) = grind (arith, joined_kept f same ls, same)
 
 pub length_shown : (ytd : Bool) (ls : List Line) → length (shown_lines ytd ls) ≡ length ls
-length_shown true ls = refl
-length_shown false ls = length-map ls without_year
+length_shown ytd ls = grind (arith, common_steps)
 
 pub numbers_shown : (ytd : Bool) (n : ℕ) (ls : List Line) → table_numbers ytd n (shown_lines ytd ls) ≡ table_numbers ytd n ls
 numbers_shown true n ls = refl

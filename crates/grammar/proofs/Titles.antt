@@ -1,18 +1,20 @@
 -- A title's line.
-use Rattle.std.proofs.Common.{◌≡◌, ℕ, ◌+◌, ◌≤◌, Bool, true, false, ◌&&◌, List, [], ◌∷◌, ◌++◌, map, length, decimal, sum, sym, refl, ap, ◌∙◌, append_assoc, append-nil, arith, length-append}
+use Rattle.std.proofs.Common.{◌≡◌, ℕ, ◌+◌, ◌≤◌, Bool, true, false, List, [], ◌∷◌, ◌++◌, map, length, decimal, sum, sym, refl, ap, ◌∙◌, append_assoc, append-nil, arith, length-append}
+use Rattle.std.proofs.lemmas.Grind.{common_steps}
+use Rattle.std.proofs.lemmas.Bool.Decides.{nat_tests}
 use mathlib.Core.List.{map-append}
-use Rattle.std.proofs.lemmas.Bool.{and_parts}
 use Rattle.std.specs.List.{list_all}
 use Rattle.texts.specs.Texts.{is_text}
 use Rattle.titles.specs.Titles.{Entry, is_blank_or_issn, issn_bytes, new_entry}
 use Rattle.reports.proofs.Low.{all_pass_append}
 use Rattle.reports.specs.Reports.{Usage, is_low, shown_numbers, ytd_numbers}
 use Rattle.reports.specs.Written.{title_line}
-use Rattle.cells.proofs.Complete.{Clean}
+use Rattle.cells.proofs.Judges.{issn_judge, number_judge, sum_judge, text_judge, word_judge}
+use Rattle.cells.proofs.Reading.{Clean}
 use Rattle.grammar.specs.Files.{line_of}
 use Rattle.grammar.specs.Lines.{Row, entry_at, names_at, none, row_at, usage_at, year_to_date_at}
 use Rattle.grammar.specs.Sound.{SoundYear}
-use Rattle.grammar.proofs.Cells.{ended, ended_parts, five_cells, issn_cell, line_cells, number_cell, sum_cell, text_cell, word_cell}
+use Rattle.grammar.proofs.Cells.{cell, ended, ended_parts, five_cells, line_cells}
 use Rattle.grammar.proofs.Numbers.{numbers_spell, some_figures}
 use Rattle.grammar.proofs.Spelling.{Anything, Spells, close, follow, give, restate}
 
@@ -23,7 +25,7 @@ GoodYear total v = (v.0 + v.1 ≡ total) × (is_low total ≡ true) × (is_low v
 year_spell : (total : ℕ) → Spells (year_to_date_at total) Anything (GoodYear total) (λ v. ended true (decimal total ∷ decimal v.0 ∷ decimal v.1 ∷ []))
 year_spell total =
     restate (λ v good. (good.1.1.0.0, good.0.1, good.1.0, good.1.1.0.1)) (λ v good. ((omega arith, good.1), (good.2, ((good.0, good.3), tt)))) (λ v good. simp (append_assoc, append-nil))
-    (follow (λ (v : ℕ × ℕ). total) (sum_cell false 0 total) (λ t made. follow (λ v. v.0) (number_cell false) (λ h good. follow (λ v. v.1) (sum_cell true h total) (λ f good. give (h, f) (refl, (refl, (omega (arith, made.0), tt))) (λ v k i. (k.1.0 i, k.0 i))))))
+    (follow (λ (v : ℕ × ℕ). total) (cell (sum_judge 0 total) false) (λ t made. follow (λ v. v.0) (cell number_judge false) (λ h good. follow (λ v. v.1) (cell (sum_judge h total) true) (λ f good. give (h, f) (refl, (refl, (omega (arith, made.0), tt))) (λ v k i. (k.1.0 i, k.0 i))))))
 
 -- a title's numbers: one to each column, the year to date that belongs to them, and none too high to be shown
 abbrev pub GoodUsage : Bool → ℕ → Usage → Type 0
@@ -33,23 +35,17 @@ abbrev Low : List ℕ → Type 0
 Low ns = list_all is_low ns ≡ true
 
 low_up : (ns : List ℕ) (a b c : ℕ) → Low ns → is_low a ≡ true → is_low b ≡ true → is_low c ≡ true → Low (ns ++ (a ∷ b ∷ c ∷ []))
-low_up ns a b c low x y z =
-    all_pass_append is_low ns (a ∷ b ∷ c ∷ []) ∙ (λ i. low i && (x i && (y i && (z i && true))))
+low_up ns a b c low x y z = grind (arith, nat_tests, all_pass_append)
 
 low_down : (ns : List ℕ) (a b c : ℕ) → Low (ns ++ (a ∷ b ∷ c ∷ [])) → Low ns × (is_low a ≡ true) × (is_low b ≡ true) × (is_low c ≡ true)
-low_down ns a b c low =
-    let p = and_parts (list_all is_low ns) (list_all is_low (a ∷ b ∷ c ∷ [])) (sym (all_pass_append is_low ns (a ∷ b ∷ c ∷ [])) ∙ low) in
-    let q = and_parts (is_low a) (is_low b && (is_low c && true)) p.1 in
-    let r = and_parts (is_low b) (is_low c && true) q.1 in
-    let s = and_parts (is_low c) true r.1 in
-    (p.0, q.0, r.0, s.0)
+low_down ns a b c low = grind (arith, nat_tests, all_pass_append)
 
 -- the numbers as they are read: the columns, and the year to date
 usage_text : (u : Usage) → ended false (map decimal u.columns) ++ (ended true (map decimal (ytd_numbers true u)) ++ []) ≡ ended true (map decimal (shown_numbers true u))
 usage_text u =
-    ap (λ m. ended false (map decimal u.columns) ++ m) (append-nil (ended true (map decimal (ytd_numbers true u))))
-    ∙ ended_parts (map decimal u.columns) (map decimal (ytd_numbers true u)) refl
-    ∙ ap (ended true) (sym (map-append decimal u.columns (ytd_numbers true u)))
+    let all = ended_parts (map decimal u.columns) (map decimal (ytd_numbers true u)) refl in
+    let split = map-append decimal u.columns (ytd_numbers true u) in
+    grind (arith, common_steps)
 
 pub usage_spell : (ytd : Bool) (n : ℕ) → Spells (usage_at ytd n) Anything (GoodUsage ytd n) (λ u. ended true (map decimal (shown_numbers ytd u)))
 usage_spell true n =
@@ -70,13 +66,13 @@ module _ (platform : List ℕ) (clean : Clean platform) where
   names_spell : Spells (names_at platform) Anything (λ v. (is_text v.0 ≡ true) × (is_text v.1 ≡ true)) (λ v. ended false (v.0 ∷ v.1 ∷ platform ∷ []))
   names_spell =
       restate (λ v good. (good.0, good.1.0)) (λ v good. (good.0, (good.1, (tt, tt)))) (λ v good. simp (append_assoc, append-nil))
-      (follow (λ (v : List ℕ × List ℕ). v.0) (text_cell false) (λ n good. follow (λ v. v.1) (text_cell false) (λ b good. follow (λ v. tt) (word_cell platform false clean) (λ w good. give (n, b) (refl, (refl, (refl, tt))) (λ v k i. (k.1.1.0 i, k.1.0 i))))))
+      (follow (λ (v : List ℕ × List ℕ). v.0) (cell text_judge false) (λ n good. follow (λ v. v.1) (cell text_judge false) (λ b good. follow (λ v. tt) (cell (word_judge platform clean) false) (λ w good. give (n, b) (refl, (refl, (refl, tt))) (λ v k i. (k.1.1.0 i, k.1.0 i))))))
 
   entry_spell : Spells (entry_at platform) Anything GoodEntry (λ e. ended false (e.name ∷ e.publisher ∷ platform ∷ issn_bytes e.print ∷ issn_bytes e.online ∷ []))
   entry_spell =
       restate (λ e good. (good.0.0, good.0.1, good.1.0, good.1.1.0)) (λ e good. ((good.0, good.1), (good.2, (good.3, tt))))
       (λ e good. five_cells e.name e.publisher platform (issn_bytes e.print) (issn_bytes e.online) [] ∙ append-nil (ended false (e.name ∷ e.publisher ∷ platform ∷ issn_bytes e.print ∷ issn_bytes e.online ∷ [])))
-      (follow (λ (e : Entry). (e.name, e.publisher)) names_spell (λ n good. follow (λ e. e.print) (issn_cell false) (λ p good. follow (λ e. e.online) (issn_cell false) (λ o good. give (new_entry n.0 n.1 p o) (refl, (refl, (refl, tt))) (λ e k i. new_entry (k.1.1.0 i).0 (k.1.1.0 i).1 (k.1.0 i) (k.0 i))))))
+      (follow (λ (e : Entry). (e.name, e.publisher)) names_spell (λ n good. follow (λ e. e.print) (cell issn_judge false) (λ p good. follow (λ e. e.online) (cell issn_judge false) (λ o good. give (new_entry n.0 n.1 p o) (refl, (refl, (refl, tt))) (λ e k i. new_entry (k.1.1.0 i).0 (k.1.1.0 i).1 (k.1.0 i) (k.0 i))))))
 
 some_shown : (ytd : Bool) (u : Usage) → 1 ≤ length u.columns → none (map decimal (shown_numbers ytd u)) ≡ false
 some_shown ytd u some =

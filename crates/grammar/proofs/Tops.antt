@@ -7,10 +7,11 @@ use Rattle.columns.specs.Calendar.{is_date}
 use Rattle.columns.specs.Layouts as layouts
 use Rattle.columns.specs.Layouts.{Layout}
 use Rattle.reports.specs.Written.{date_text, heading_line, line_end, line_text, ytd_headings}
-use Rattle.cells.proofs.Complete.{Clean, text_clean}
+use Rattle.cells.proofs.Judges.{date_judge, note_judge, text_clean, text_judge, word_judge}
+use Rattle.cells.proofs.Reading.{Clean}
 use Rattle.grammar.specs.Files.{Top, column_count, top_at}
 use Rattle.grammar.specs.Lines.{Occasion, Shown, figure_count, heading_words, kind_at, occasion_at, total_label_at, totals_at, words_at}
-use Rattle.grammar.proofs.Cells.{date_cell, ended, ended_parts, five_cells, line_cells, note_cell, text_cell, word_cell}
+use Rattle.grammar.proofs.Cells.{cell, ended, ended_parts, five_cells, line_cells}
 use Rattle.grammar.proofs.Numbers.{Figures, numbers_spell, some_figures}
 use Rattle.grammar.proofs.Spelling.{Anything, Spells, follow, give, knowing, restate}
 use Rattle.grammar.proofs.Words.{words_spell}
@@ -22,7 +23,7 @@ kind_text l = line_text l.report (l.description ∷ [])
 pub kind_spell : (l : Layout) → layouts.Sound l → Spells (kind_at l) Anything Anything (λ v. kind_text l)
 kind_spell l sound =
     restate (λ v good. tt) (λ v good. (tt, tt)) (λ v good. append_assoc l.report (44 ∷ []) (l.description ++ line_end) ∙ line_cells l.report (l.description ∷ []))
-    (follow (λ v. tt) (word_cell l.report false (text_clean l.report sound.report)) (λ u good. knowing (λ v. (refl, tt)) (word_cell l.description true (text_clean l.description sound.description))))
+    (follow (λ v. tt) (cell (word_judge l.report (text_clean l.report sound.report)) false) (λ u good. knowing (λ v. (refl, tt)) (cell (word_judge l.description (text_clean l.description sound.description)) true)))
 
 -- lines 2 to 4
 abbrev pub GoodOccasion : Occasion → Type 0
@@ -34,7 +35,7 @@ occasion_text o = line_text o.criteria [] ++ (line_text (codes "Date run:") [] +
 pub occasion_spell : Spells occasion_at Anything GoodOccasion occasion_text
 occasion_spell =
     restate (λ o good. (good.0, good.1.1.0)) (λ o good. (good.0, (tt, (good.1, tt)))) (λ o good. ap (λ l. line_text o.criteria [] ++ (line_text (codes "Date run:") [] ++ l)) (append-nil (line_text (date_text o.date.year o.date.month o.date.day) [])))
-    (follow (λ (o : Occasion). o.criteria) (text_cell true) (λ c good. follow (λ o. tt) (word_cell (codes "Date run:") true (text_clean (codes "Date run:") refl)) (λ w good. follow (λ o. o.date) (date_cell true) (λ d good. give (record { criteria = c; date = d }) (refl, (refl, (refl, tt))) (λ o k i. record { criteria = k.1.1.0 i; date = k.0 i })))))
+    (follow (λ (o : Occasion). o.criteria) (cell text_judge true) (λ c good. follow (λ o. tt) (cell (word_judge (codes "Date run:") (text_clean (codes "Date run:") refl)) true) (λ w good. follow (λ o. o.date) (cell date_judge true) (λ d good. give (record { criteria = c; date = d }) (refl, (refl, (refl, tt))) (λ o k i. record { criteria = k.1.1.0 i; date = k.0 i })))))
 
 -- line 5
 ytd_clean : (ytd : Bool) → AllByRecursion Clean (ytd_headings ytd)
@@ -60,7 +61,7 @@ shown_text s = line_text (codes "Total for all journals") (s.publisher ∷ s.pla
 label_spell : Spells total_label_at Anything (λ v. ((v.0 ≡ []) ⊎ (is_text v.0 ≡ true)) × (is_text v.1 ≡ true)) (λ v. ended false (codes "Total for all journals" ∷ v.0 ∷ v.1 ∷ []))
 label_spell =
     restate (λ v good. (good.1.0, good.1.1.0)) (λ v good. (tt, (good.0, (good.1, tt)))) (λ v good. simp append_assoc)
-    (follow (λ (v : List ℕ × List ℕ). tt) (word_cell (codes "Total for all journals") false (text_clean (codes "Total for all journals") refl)) (λ w good. follow (λ v. v.0) (note_cell false) (λ b good. follow (λ v. v.1) (text_cell false) (λ t good. give (b, t) (refl, (refl, (refl, tt))) (λ v k i. (k.1.0 i, k.0 i))))))
+    (follow (λ (v : List ℕ × List ℕ). tt) (cell (word_judge (codes "Total for all journals") (text_clean (codes "Total for all journals") refl)) false) (λ w good. follow (λ v. v.0) (cell note_judge false) (λ b good. follow (λ v. v.1) (cell text_judge false) (λ t good. give (b, t) (refl, (refl, (refl, tt))) (λ v k i. (k.1.0 i, k.0 i))))))
 
 some_count : (ytd : Bool) (n : ℕ) → 1 ≤ n → 1 ≤ figure_count ytd n
 some_count true n some = omega arith
@@ -79,7 +80,7 @@ totals_text ytd n s some good =
 pub totals_spell : (ytd : Bool) (n : ℕ) → 1 ≤ n → Spells (totals_at ytd n) Anything (GoodShown ytd n) shown_text
 totals_spell ytd n some =
     restate (λ s good. (good.0.0, good.0.1, good.1.1.1.0)) (λ s good. ((good.0, good.1), (tt, (tt, (good.2, tt))))) (λ s good. totals_text ytd n s some good)
-    (follow (λ (s : Shown). (s.publisher, s.platform)) label_spell (λ x good. follow (λ s. tt) (word_cell [] false tt) (λ y good. follow (λ s. tt) (word_cell [] false tt) (λ z good. follow (λ s. s.figures) (numbers_spell true (figure_count ytd n)) (λ f good. give (record { publisher = x.0; platform = x.1; figures = f }) (refl, (refl, (refl, (refl, tt)))) (λ s k i. record { publisher = (k.1.1.1.0 i).0; platform = (k.1.1.1.0 i).1; figures = k.0 i }))))))
+    (follow (λ (s : Shown). (s.publisher, s.platform)) label_spell (λ x good. follow (λ s. tt) (cell (word_judge [] tt) false) (λ y good. follow (λ s. tt) (cell (word_judge [] tt) false) (λ z good. follow (λ s. s.figures) (numbers_spell true (figure_count ytd n)) (λ f good. give (record { publisher = x.0; platform = x.1; figures = f }) (refl, (refl, (refl, (refl, tt)))) (λ s k i. record { publisher = (k.1.1.1.0 i).0; platform = (k.1.1.1.0 i).1; figures = k.0 i }))))))
 
 -- lines 1 to 6
 abbrev pub GoodTop : Layout → Top → Type 0

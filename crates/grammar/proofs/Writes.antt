@@ -4,20 +4,14 @@ use Rattle.std.proofs.lemmas.List.FromFn.{length-map-range_with_len}
 use Rattle.std.specs.List.{range_with_len, list_all, AllByRecursion}
 use Rattle.titles.proofs.Fitness.{read_text_lem}
 use Rattle.titles.specs.declared.issn.Issn.{Issn}
-use Rattle.titles.specs.declared.issn.IssnFault.{IssnFault}
 use Rattle.titles.specs.declared.title.TitleFault.{TitleFault}
-use Rattle.titles.specs.declared.title.TitleFault.TheVariants.{Name, Publisher, Print, Online}
-use Rattle.titles.specs.Issns.{read_issn}
-use Rattle.titles.specs.Places.{map_ok}
-use Rattle.titles.specs.Texts.{read_text}
-use Rattle.titles.specs.Titles.{Entry, check_issn, is_blank_or_issn, judge, unless_fault}
+use Rattle.titles.specs.Titles.{Entry, check_issn, is_blank_or_issn, judge}
 use Rattle.reports.proofs.Lines.{length_lines}
 use Rattle.reports.proofs.Usages.{balance}
 use Rattle.reports.specs.declared.refusal.WriteRefusal.{WriteRefusal}
 use Rattle.reports.specs.Answers.{Subject, columns_of, first_ground, grounds, outcome, report_about, text_about, title_ground, titles_ground, unless}
 use Rattle.reports.specs.Reports.{Usage, is_low}
 use Rattle.reports.specs.Tables.{html_at, lines_from, pdf_at, usage_by}
-use Rattle.cells.proofs.Granted.{no_ok}
 use Rattle.grammar.specs.Shown.{WrittenIsRead, shown_lines, shown_of}
 use Rattle.grammar.specs.Sound.{SoundLine, SoundReport}
 use Rattle.grammar.proofs.Files.{file_complete}
@@ -29,39 +23,24 @@ use Rattle.grammar.proofs.Titles.{GoodEntry}
 no_grounds : (gs : List (Option WriteRefusal)) → first_ground gs ≡ None → AllByRecursion (λ g. g ≡ None) gs
 no_grounds [] h = tt
 no_grounds (None ∷ gs) h = (refl, no_grounds gs h)
-no_grounds (Some g ∷ gs) h = let z : ◌≡◌ {A = ℕ} 0 1 = cc in absurd (omega arith)
+no_grounds (Some g ∷ gs) h = cc
 
 fine : (b : Bool) (g : WriteRefusal) → unless b g ≡ None → b ≡ true
-fine true g h = refl
-fine false g h = let z : ◌≡◌ {A = ℕ} 0 1 = cc in absurd (omega arith)
-
--- an entry in which no fault is found is a good one
-unless_fault_lem : {A B E : Type 0} (which : E → TitleFault) (r : Result A E) (next : Result B TitleFault) (y : B) → unless_fault which r next ≡ Ok y → (is_ok r ≡ true) × (next ≡ Ok y)
-unless_fault_lem which (Ok x) next y h = (refl, h)
-unless_fault_lem which (Err fault) next y h = absurd (no_ok (which fault) y h)
-
-issn_kept : (r : Result Issn IssnFault) → is_ok (map_ok Some r) ≡ is_ok r
-issn_kept (Ok x) = refl
-issn_kept (Err fault) = refl
+fine b g h = grind arith
 
 pub check_issn_lem : (issn : Option Issn) → is_ok (check_issn issn) ≡ is_blank_or_issn issn
-check_issn_lem None = refl
-check_issn_lem (Some issn) = issn_kept (read_issn issn.bytes)
+check_issn_lem issn = grind arith
 
+-- an entry in which no fault is found is a good one
 judged : (e x : Entry) → judge e ≡ Ok x → GoodEntry e
 judged e x h =
-    let online : Result Entry TitleFault = unless_fault Online (check_issn e.online) (Ok e) in
-    let print : Result Entry TitleFault = unless_fault Print (check_issn e.print) online in
-    let publisher : Result Entry TitleFault = unless_fault Publisher (read_text e.publisher) print in
-    let a = unless_fault_lem Name (read_text e.name) publisher x h in
-    let b = unless_fault_lem Publisher (read_text e.publisher) print x a.1 in
-    let c = unless_fault_lem Print (check_issn e.print) online x b.1 in
-    let d = unless_fault_lem Online (check_issn e.online) (Ok e) x c.1 in
-    (sym (read_text_lem e.name) ∙ a.0, sym (read_text_lem e.publisher) ∙ b.0, sym (check_issn_lem e.print) ∙ c.0, sym (check_issn_lem e.online) ∙ d.0)
+    let name = read_text_lem e.name in
+    let publisher = read_text_lem e.publisher in
+    (grind arith, grind arith, grind (arith, check_issn_lem), grind (arith, check_issn_lem))
 
 title_fine : (t : ℕ) (e : Entry) (r : Result Entry TitleFault) (rest : Option WriteRefusal) → judge e ≡ r → title_ground t r rest ≡ None → GoodEntry e × (rest ≡ None)
 title_fine t e (Ok x) rest is h = (judged e x is, h)
-title_fine t e (Err fault) rest is h = let z : ◌≡◌ {A = ℕ} 0 1 = cc in absurd (omega arith)
+title_fine t e (Err fault) rest is h = cc
 
 titles_fine : (t : ℕ) (es : List Entry) → titles_ground t es ≡ None → AllByRecursion GoodEntry es
 titles_fine t [] h = tt
@@ -100,8 +79,7 @@ written_is_sound s room some most granted =
     }
 
 granted_alone : (g : Option WriteRefusal) (n m : ℕ) → outcome g n ≡ Ok m → g ≡ None
-granted_alone None n m h = refl
-granted_alone (Some g) n m h = absurd (no_ok g m h)
+granted_alone g n m h = grind arith
 
 pub written_is_read : WrittenIsRead
 written_is_read s room n layout some most granted =

@@ -1,4 +1,3 @@
-pub mod Counting
 pub mod Dividing
 pub mod Writing
 pub mod Spelling

@@ -1,8 +1,7 @@
 -- A row in which each block is whole.
-use Rattle.std.proofs.Common.{◌≡◌, ℕ, zero, suc, ◌+◌, ◌≤◌, List, [], ◌∷◌, map, length, drop, Some, None, Option, sym, refl, ap, ◌∙◌, subst, arith}
-use Rattle.std.proofs.lemmas.List.{length-drop}
+use Rattle.std.proofs.Common.{◌≡◌, ℕ, ◌+◌, List, [], ◌∷◌, map, length, drop, Some, refl, arith}
 use Rattle.std.specs.List.{AllByRecursion}
-use Rattle.groups.specs.Frames.{Frame, bytes_of, choose, counted, frames, frames_after, new_frame}
+use Rattle.groups.specs.Frames.{Frame, bytes_of, frames, new_frame}
 use Rattle.groups.specs.Written.{placed}
 use Rattle.groups.proofs.Dividing.{frames_behind}
 
@@ -13,22 +12,21 @@ Whole f = f.contents ≡ Some (bytes_of f.contents)
 abbrev pub pair_of : Frame → ℕ × List ℕ
 pair_of f = (f.tag, bytes_of f.contents)
 
+whole_first : (i tag : ℕ) (bs : List ℕ) (f : Frame) (fs : List Frame) → frames i (tag ∷ bs) ≡ f ∷ fs → Whole f → f ≡ new_frame i f.tag (Some (bytes_of f.contents))
+whole_first i tag bs f fs e w = grind arith
+
+behind_whole : (i tag : ℕ) (bs : List ℕ) (f : Frame) (fs : List Frame) → frames i (tag ∷ bs) ≡ f ∷ fs → Whole f → frames (i + 3 + length (bytes_of f.contents)) (drop (2 + length (bytes_of f.contents)) bs) ≡ fs
+behind_whole i tag bs f fs e w = grind (arith, frames_behind)
+
 -- whole blocks lie one behind the other
-abbrev Close : ℕ → List Frame → Type 0
-Close i fs = fs ≡ placed i (map pair_of fs)
-
-first_close : (k i tag : ℕ) (bs : List ℕ) (o : Option (List ℕ)) → ((i : ℕ) (bs : List ℕ) → length bs ≤ k → AllByRecursion Whole (frames i bs) → Close i (frames i bs)) → length bs ≤ k → AllByRecursion Whole (choose o (new_frame i tag None ∷ []) (λ p. new_frame i tag (Some p) ∷ frames_after (2 + length p) (i + 1) bs)) → Close i (choose o (new_frame i tag None ∷ []) (λ p. new_frame i tag (Some p) ∷ frames_after (2 + length p) (i + 1) bs))
-first_close k i tag bs None rec l w = let z : ◌≡◌ {A = ℕ} 0 1 = cc w.0 in absurd (omega arith)
-first_close k i tag bs (Some p) rec l w =
-    let e : i + 1 + (2 + length p) ≡ i + 3 + length p = omega arith in
-    let t = frames_behind (2 + length p) (i + 1) bs ∙ ap (λ j. frames j (drop (2 + length p) bs)) e in
-    let r = rec (i + 3 + length p) (drop (2 + length p) bs) (omega (arith, length-drop (2 + length p) bs)) (subst (λ (fs : List Frame). AllByRecursion Whole fs) t w.1) in
-    ap (λ fs. new_frame i tag (Some p) ∷ fs) (t ∙ r ∙ ap (λ fs. placed (i + 3 + length p) (map pair_of fs)) (sym t))
-
-close_within : (k i : ℕ) (bs : List ℕ) → length bs ≤ k → AllByRecursion Whole (frames i bs) → Close i (frames i bs)
-close_within k i [] l w = refl
-close_within zero i (tag ∷ bs) l w = absurd (omega arith)
-close_within (suc k) i (tag ∷ bs) l w = first_close k i tag bs (counted bs) (close_within k) (omega arith) w
+close : (fs : List Frame) (i : ℕ) (bs : List ℕ) → frames i bs ≡ fs → AllByRecursion Whole fs → fs ≡ placed i (map pair_of fs)
+close [] i bs e w = refl
+close (f ∷ fs) i [] e w = cc
+close (f ∷ fs) i (tag ∷ bs) e w =
+    let n : ℕ = length (bytes_of f.contents) in
+    let first = whole_first i tag bs f fs e w.0 in
+    let others = close fs (i + 3 + n) (drop (2 + n) bs) (behind_whole i tag bs f fs e w.0) w.1 in
+    λ j. first j ∷ others j
 
 pub whole_blocks_close : (i : ℕ) (bs : List ℕ) → AllByRecursion Whole (frames i bs) → frames i bs ≡ placed i (map pair_of (frames i bs))
-whole_blocks_close i bs w = close_within (length bs) i bs (omega arith) w
+whole_blocks_close i bs w = close (frames i bs) i bs refl w

@@ -1,6 +1,6 @@
 -- How a row of bytes is divided into blocks.
 use Rattle.std.specs.Borrow.{Bor}
-use Rattle.std.specs.Prelude.{ℕ, zero, suc, ◌+◌, ◌*◌, cond, List, [], ◌∷◌, length, take, Some, None, Option, nat_le}
+use Rattle.std.specs.Prelude.{ℕ, zero, suc, ◌+◌, ◌*◌, cond, List, [], ◌∷◌, length, take, Some, None, Option, ◌==◌, nat_le}
 
 -- a block as it lies in a row: the place of its tag, the tag, and the bytes behind its length;
 -- none where they, or the length itself, go past the end
@@ -24,6 +24,10 @@ size (Some bs) = 3 + length bs
 abbrev pub bytes_of : Option (List ℕ) → List ℕ
 bytes_of None = []
 bytes_of (Some bs) = bs
+
+-- the contents of a block, if it has this tag and is whole
+abbrev pub contents_under : ℕ → Frame → Option (List ℕ)
+contents_under tag f = cond (f.tag == tag) f.contents None
 
 -- what the lent bytes hold
 abbrev pub held : Option (Bor (List ℕ)) → Option (List ℕ)

@@ -26,6 +26,11 @@ abbrev pub Within : ℕ → Option Block → ℕ → Type 0
 Within before None after = after ≤ before
 Within before (Some b) after = (b.place + size (held b.contents) ≤ before) × (after ≤ before)
 
+-- a call of `next`: the first block comes and the others stay, and what comes lies before the end
+pub record Taken (before : Blocks) (b : Option Block) (after : Blocks) : Type 0 where
+  pub came : Came (left before) b (left after)
+  pub within : Within (ends before) b (ends after)
+
 -- the counted bytes with what stands behind them
 abbrev pub with_rest : List ℕ → Option (List ℕ) → Option (List ℕ × List ℕ)
 with_rest bs None = None

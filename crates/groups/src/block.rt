@@ -11,6 +11,19 @@ pub struct Block<'a> {
     pub contents: Option<&'a [u8]>,
 }
 
+impl<'a> Block<'a> {
+    ghost use Rattle.std.specs.Prelude.{◌≡◌};
+    ghost use Rattle.groups.specs.Frames.{contents_under, held};
+    ghost use Rattle.groups.specs.Views.{frame_of};
+
+    /// The contents, if the block has this tag and is whole.
+    pub fn contents_under(&self, tag: u8) -> Option<&'a [u8]>
+        ensures { held result ≡ contents_under tag (frame_of self.now) }
+    {
+        if self.tag == tag { self.contents } else { None }
+    }
+}
+
 /// The blocks of a row that are still to come.
 #[derive(Drop)]
 pub struct Blocks<'a> {

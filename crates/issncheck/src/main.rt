@@ -4,7 +4,7 @@
 ghost use Rattle.std.specs.Prelude.{◌≡◌, ◌+◌, ◌<◌, [], ◌∷◌, if◌then◌else◌, nat_lt, slice_index, slice_set};
 
 use std::str::from_utf8;
-use titles::{IssnFault, read_issn};
+use titles::read_issn;
 
 /// The digits and the check sign of an ISSN, without its hyphen.
 type Signs = [u8; 8];
@@ -41,8 +41,7 @@ fn exchanged(signs: Signs, place: usize) -> Signs
     ensures { result ≡ slice_set (slice_set signs place (slice_index signs (place + 1))) (place + 1) (slice_index signs place) }
 {
     let mut other = signs;
-    other[place] = signs[place + 1];
-    other[place + 1] = signs[place];
+    other.swap(place, place + 1);
     other
 }
 
@@ -57,14 +56,6 @@ fn changed(signs: Signs, place: usize) -> Signs
     other
 }
 
-fn cause(fault: IssnFault) -> &'static str {
-    match fault {
-        IssnFault::Length => "length",
-        IssnFault::Unfit { .. } => "unfit byte",
-        IssnFault::CheckSum => "check sum",
-    }
-}
-
 fn report(rt: &HostRuntime, bytes: &[u8]) -> anyhow::Result<()> {
     let text = from_utf8(bytes)?;
     match read_issn(bytes) {
@@ -72,13 +63,10 @@ fn report(rt: &HostRuntime, bytes: &[u8]) -> anyhow::Result<()> {
             let shown = from_utf8(issn.as_bytes())?;
             println!(rt; "{shown}: right")?;
         }
-        Err(fault) => {
-            let cause = cause(fault);
-            match fault.place() {
-                Some(place) => println!(rt; "{text}: wrong, {cause} at {place}")?,
-                None => println!(rt; "{text}: wrong, {cause}")?,
-            }
-        }
+        Err(fault) => match fault.place() {
+            Some(place) => println!(rt; "{text}: wrong, {fault} at {place}")?,
+            None => println!(rt; "{text}: wrong, {fault}")?,
+        },
     }
     Ok(())
 }
@@ -86,6 +74,7 @@ fn report(rt: &HostRuntime, bytes: &[u8]) -> anyhow::Result<()> {
 /// The ISSN, then with each two neighbours exchanged that are not the same, then with each sign changed.
 fn report_with_slips(rt: &HostRuntime, signs: Signs) -> anyhow::Result<()> {
     report(rt, &hyphenated(signs))?;
+    // By place: it says which two signs are exchanged.
     for place in 0..7 {
         if signs[place] != signs[place + 1] {
             report(rt, &hyphenated(exchanged(signs, place)))?;
@@ -95,6 +84,7 @@ fn report_with_slips(rt: &HostRuntime, signs: Signs) -> anyhow::Result<()> {
 }
 
 fn report_changes(rt: &HostRuntime, signs: Signs) -> anyhow::Result<()> {
+    // By place: it says which sign is changed.
     for place in 0..8 {
         report(rt, &hyphenated(changed(signs, place)))?;
     }

@@ -7,9 +7,9 @@
 use anyhow::anyhow;
 use audit::{Audit, Written, run};
 use columns::MonthScheme;
-use ledger::Tallies;
+use ledger::{Refusal, Tallies};
 use lists::read_list;
-use records::{BestRule, Item, Request, RequestTable};
+use records::{BestRule, HTML, PDF, Request, RequestTable};
 use replay::{Entry, Reply, Step};
 use reports::{Date, Header};
 use std::io::Write;
@@ -17,10 +17,6 @@ use titles::Title;
 
 /// The start of 2009, in seconds since the start of 2000.
 const START: u32 = 284_083_200;
-
-const HTML: u8 = 1;
-
-const PDF: u8 = 2;
 
 /// A successful request by the reader at address 1 for article 5 of a journal.
 fn request(journal: u16, format: u8, time: u32) -> Request {
@@ -42,7 +38,7 @@ fn request(journal: u16, format: u8, time: u32) -> Request {
 fn offer(journal: u16, format: u8, time: u32) -> Entry {
     Entry {
         step: Step::Offer {
-            item: Item::Readable(request(journal, format, time)),
+            item: Ok(request(journal, format, time)),
             lent: true,
         },
         reply: None,
@@ -72,14 +68,6 @@ const TITLE_LIST: [u8; 97] = *b"\
     \x02\x00\x0aLock Press\
     \x03\x00\x093000-0009";
 
-/// An entry of the title table before the list is read.
-const BLANK: Title<'static> = Title {
-    name: b"",
-    publisher: b"",
-    print: None,
-    online: None,
-};
-
 /// The offers of a small month, with two second clicks among six requests.
 fn offers() -> [Entry; 6] {
     [
@@ -106,14 +94,10 @@ fn perform(
     cells: &mut [u32],
     out: &mut [u8],
 ) -> anyhow::Result<Outcome> {
-    let Ok(scheme) = MonthScheme::new(2009, 2) else {
-        return Err(anyhow!("the period is wrong"));
-    };
+    let scheme = MonthScheme::new(2009, 2)?;
     let list = TITLE_LIST;
-    let mut titles = [BLANK, BLANK];
-    if read_list(&list, &mut titles).is_err() {
-        return Err(anyhow!("the title list is wrong"));
-    }
+    let mut titles = [Title::default(); 2];
+    read_list(&list, &mut titles)?;
     let mut source = RequestTable::new(&[]);
     let Ok(audit) = run(
         BestRule,
@@ -132,19 +116,19 @@ fn perform(
     let Audit { ledger, written } = audit;
     let tallies = ledger.tallies();
     let _ = ledger.close();
-    match written {
-        Ok(written) => Ok(Outcome { tallies, written }),
-        Err(_) => Err(anyhow!("the report was not written")),
-    }
+    Ok(Outcome {
+        tallies,
+        written: written?,
+    })
 }
 
 /// What was replied to an offer.
-fn words(reply: Option<Reply>) -> &'static str {
+fn words(reply: Option<Result<Reply, Refusal>>) -> &'static str {
     match reply {
-        Some(Reply::Granted) => "accepted",
-        Some(Reply::PassedOver) => "passed over",
-        Some(Reply::Refused(_)) => "refused",
-        Some(Reply::Took(_)) | None => "not made",
+        Some(Ok(Reply::Granted)) => "accepted",
+        Some(Ok(Reply::PassedOver)) => "passed over",
+        Some(Err(_)) => "refused",
+        Some(Ok(Reply::Took(_))) | None => "not made",
     }
 }
 
@@ -152,7 +136,7 @@ fn words(reply: Option<Reply>) -> &'static str {
 fn tell_offers(rt: &HostRuntime, entries: &[Entry]) -> anyhow::Result<()> {
     for entry in entries {
         if let Step::Offer {
-            item: Item::Readable(request),
+            item: Ok(request),
             ..
         } = entry.step
         {

@@ -1,3 +1,4 @@
+pub mod Walking
 pub mod Unfit
 pub mod Fielding
 pub mod Listing

@@ -1,17 +1,14 @@
 -- A list is right exactly where it spells entries.
-use Rattle.std.proofs.Common.{◌≡◌, ℕ, ◌+◌, ◌<◌, ◌≤◌, Bool, true, false, cond, eqb, leb, List, [], ◌∷◌, map, length, Some, None, Ok, Err, Option, Result, sym, refl, ap, ◌∙◌, subst, arith}
-use Rattle.std.proofs.lemmas.Bool.{cond-false, eqb-true, leb-false, lt-leb}
+use Rattle.std.proofs.Common.{◌≡◌, ℕ, ◌+◌, ◌<◌, ◌≤◌, List, [], ◌∷◌, map, length, Some, Ok, Err, Result, sym, refl, ap, ◌∙◌, subst, arith}
 use Rattle.std.specs.List.{AllByRecursion}
-use Rattle.groups.specs.Frames.{Frame, bytes_of, choose, frames}
+use Rattle.groups.specs.Frames.{Frame, bytes_of, frames}
 use Rattle.groups.specs.Written.{Bytes, placed}
 use Rattle.groups.proofs.Spelling.{contents_are_bytes, row_spelled}
 use Rattle.groups.proofs.Whole.{Whole, pair_of, whole_blocks_close}
 use Rattle.groups.proofs.Writing.{whole_row_written}
 use Rattle.titles.specs.Titles.{Entry}
-use Rattle.lists.specs.declared.fault.ListCause.TheVariants.{BrokenGroup, SurplusGroup}
 use Rattle.lists.specs.declared.fault.ListFault.{ListFault}
 use Rattle.lists.specs.Entries.{read_entry, read_group}
-use Rattle.lists.specs.Faults.{group_fault}
 use Rattle.lists.specs.Lists.{before, read_entries, read_list}
 use Rattle.lists.specs.Written.{SpellAll, SpelledList, group_of, written_groups}
 use Rattle.lists.proofs.Listing.{head_of}
@@ -21,10 +18,7 @@ spelled_entries : (n i : ℕ) (parts : List (List ℕ)) (es : List Entry) → Sp
 spelled_entries n i [] [] s h = refl
 spelled_entries n i [] (e ∷ es) s h = absurd s
 spelled_entries n i (p ∷ parts) [] s h = absurd s
-spelled_entries n i (p ∷ parts) (e ∷ es) s h =
-    let first = cond-false (leb 512 n) (Err (group_fault n i SurplusGroup)) (read_group n i p) (lt-leb 512 n (omega arith)) ∙ spelled_group n i p e s.0 in
-    let others = spelled_entries (n + 1) (i + 3 + length p) parts es s.1 (omega arith) in
-    λ j. before (first j) (others j)
+spelled_entries n i (p ∷ parts) (e ∷ es) s h = grind (arith, spelled_group n i p e s.0, spelled_entries (n + 1) (i + 3 + length p) parts es s.1)
 
 spelled_some : (parts : List (List ℕ)) (es : List Entry) → SpellAll parts es → 1 ≤ length es → length es ≤ 512 → read_list (written_groups parts) ≡ Ok es
 spelled_some [] [] s some few = absurd (omega arith)
@@ -43,14 +37,8 @@ pub record Grouped (n : ℕ) (f : Frame) (e : Entry) : Type 0 where
   pub whole : f.contents ≡ Some contents
   pub says : read_group n f.place contents ≡ Ok e
 
-grouped_by : (n : ℕ) (f : Frame) (e : Entry) (b c : Bool) (o : Option (List ℕ)) → leb 512 n ≡ b → eqb f.tag 48 ≡ c → f.contents ≡ o → cond b (Err (group_fault n f.place SurplusGroup)) (choose (cond c o None) (Err (group_fault n f.place BrokenGroup)) (read_group n f.place)) ≡ Ok e → Grouped n f e
-grouped_by n f e true c o g h k r = let z : ◌≡◌ {A = ℕ} 0 1 = cc in absurd (omega arith)
-grouped_by n f e false false o g h k r = let z : ◌≡◌ {A = ℕ} 0 1 = cc in absurd (omega arith)
-grouped_by n f e false true None g h k r = let z : ◌≡◌ {A = ℕ} 0 1 = cc in absurd (omega arith)
-grouped_by n f e false true (Some p) g h k r = record { contents = p; below = leb-false 512 n g; tag = eqb-true f.tag 48 h; whole = k; says = r }
-
 pub grouped : (n : ℕ) (f : Frame) (e : Entry) → read_entry n f ≡ Ok e → Grouped n f e
-grouped n f e r = grouped_by n f e (leb 512 n) (eqb f.tag 48) f.contents refl refl refl r
+grouped n f e r = grind arith
 
 -- what is known of blocks that are entries and nothing else
 record Said (n : ℕ) (fs : List Frame) (es : List Entry) : Type 0 where
@@ -61,7 +49,7 @@ record Said (n : ℕ) (fs : List Frame) (es : List Entry) : Type 0 where
   few : n ≤ 512 → n + length es ≤ 512
 
 said_first : (n : ℕ) (f : Frame) (fs : List Frame) (es : List Entry) (r : Result Entry ListFault) → read_entry n f ≡ r → ((es : List Entry) → read_entries (n + 1) fs ≡ Ok es → Said (n + 1) fs es) → before r (read_entries (n + 1) fs) ≡ Ok es → Said n (f ∷ fs) es
-said_first n f fs es (Err fault) h others e = let z : ◌≡◌ {A = ℕ} 0 1 = cc in absurd (omega arith)
+said_first n f fs es (Err fault) h others e = cc
 said_first n f fs es (Ok x) h others e =
     let k = head_of x (read_entries (n + 1) fs) es e in
     let g = grouped n f x h in
@@ -77,8 +65,7 @@ said_first n f fs es (Ok x) h others e =
     })
 
 said_all : (n : ℕ) (fs : List Frame) (es : List Entry) → read_entries n fs ≡ Ok es → Said n fs es
-said_all n [] [] e = record { parts = []; whole = tt; groups = refl; spell = λ _. tt; few = λ h. omega arith }
-said_all n [] (x ∷ es) e = let z : ◌≡◌ {A = ℕ} 0 1 = cc in absurd (omega arith)
+said_all n [] es e = grind arith
 said_all n (f ∷ fs) es e = said_first n f fs es (read_entry n f) refl (said_all (n + 1) fs) e
 
 parts_are_bytes : (parts : List (List ℕ)) → AllByRecursion (λ b. Bytes b.1) (map group_of parts) → AllByRecursion Bytes parts
@@ -86,14 +73,13 @@ parts_are_bytes [] b = tt
 parts_are_bytes (p ∷ parts) b = (b.0, parts_are_bytes parts b.1)
 
 some_said : (x : ℕ) (bs : List ℕ) (parts : List (List ℕ)) (es : List Entry) → SpellAll parts es → x ∷ bs ≡ written_groups parts → 1 ≤ length es
-some_said x bs [] [] s e = let z : ◌≡◌ {A = ℕ} 0 1 = cc in absurd (omega arith)
-some_said x bs [] (y ∷ es) s e = absurd s
+some_said x bs [] es s e = cc
 some_said x bs (p ∷ parts) [] s e = absurd s
 some_said x bs (p ∷ parts) (y ∷ es) s e = omega arith
 
 -- and one that says entries spells them
 pub spells_if_said : (bs : List ℕ) (es : List Entry) → Bytes bs → read_list bs ≡ Ok es → SpelledList bs es
-spells_if_said [] es b e = let z : ◌≡◌ {A = ℕ} 0 1 = cc in absurd (omega arith)
+spells_if_said [] es b e = cc
 spells_if_said (x ∷ bs) es b e =
     let k = said_all 0 (frames 0 (x ∷ bs)) es e in
     let close = whole_blocks_close 0 (x ∷ bs) k.whole ∙ ap (placed 0) k.groups in

@@ -1,19 +1,13 @@
 -- The entries of a list, one after the other.
-use Rattle.std.proofs.Common.{◌≡◌, ℕ, ◌+◌, List, [], ◌∷◌, length, Ok, Err, Result, sym, refl, arith}
+use Rattle.std.proofs.Common.{◌≡◌, ℕ, List, ◌∷◌, length, Ok, Result, arith}
 use Rattle.groups.specs.Frames.{frames}
-use Rattle.titles.specs.Places.{map_ok}
 use Rattle.titles.specs.Titles.{Entry}
 use Rattle.lists.specs.declared.fault.ListFault.{ListFault}
 use Rattle.lists.specs.Lists.{before, read_entries, read_list}
 
--- how many entries there are, with n before them
-abbrev pub counted : ℕ → Result (List Entry) ListFault → Result ℕ ListFault
-counted n said = map_ok (λ es. n + length es) said
-
 -- a list that is not empty is read from its first group on
 pub read_from_first : (bs : List ℕ) → (length bs ≡ 0 → ⊥) → read_list bs ≡ read_entries 0 (frames 0 bs)
-read_from_first [] h = absurd (h refl)
-read_from_first (b ∷ bs) h = refl
+read_from_first bs h = grind arith
 
 -- what an entry that is read and those behind it are
 pub record Head (e : Entry) (others : Result (List Entry) ListFault) (es : List Entry) : Type 0 where
@@ -22,5 +16,4 @@ pub record Head (e : Entry) (others : Result (List Entry) ListFault) (es : List 
   pub later : others ≡ Ok tail
 
 pub head_of : (e : Entry) (others : Result (List Entry) ListFault) (es : List Entry) → before (Ok e) others ≡ Ok es → Head e others es
-head_of e (Ok tail) es h = let s : e ∷ tail ≡ es = cc in record { tail = tail; first = sym s; later = refl }
-head_of e (Err fault) es h = let z : ◌≡◌ {A = ℕ} 0 1 = cc in absurd (omega arith)
+head_of e others es h = grind arith

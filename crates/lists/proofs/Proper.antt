@@ -1,6 +1,6 @@
 -- Fields that may stand: what each holds is what is known in the end.
-use Rattle.std.proofs.Common.{◌≡◌, ℕ, ◌+◌, ◌<◌, ◌≤◌, cond, eqb, ◌⊎◌, List, [], ◌∷◌, ◌++◌, length, Some, None, Option, sym, refl, ap, ◌∙◌, inl, inr, ⊎_elim, arith}
-use Rattle.std.proofs.lemmas.Bool.{cases_Bool, cond-false, cond-true, eq-eqb, eqb-true, ne_eqb}
+use Rattle.std.proofs.Common.{◌≡◌, ℕ, ◌+◌, ◌<◌, ◌≤◌, cond, eqb, ◌⊎◌, List, [], ◌∷◌, ◌++◌, length, Some, None, Option, refl, ap, ◌∙◌, inl, inr, ⊎_elim, arith}
+use Rattle.std.proofs.lemmas.Bool.{cases_Bool, eqb-true}
 use Rattle.groups.specs.Frames.{Frame, choose, new_frame}
 use Rattle.groups.specs.Written.{placed}
 use Rattle.lists.specs.declared.fault.ListCause.TheVariants.{Field}
@@ -12,22 +12,18 @@ use Rattle.lists.proofs.Fielding.{cause_of_bytes, next_field}
 
 pub rising_if_proper : (last : ℕ) (fields : List (ℕ × List ℕ)) → Proper last fields → Rising last fields
 rising_if_proper last [] p = tt
-rising_if_proper last (f ∷ fields) p = ((p.0.0, p.0.1), rising_if_proper f.0 fields p.1)
+rising_if_proper last (f ∷ fields) p = grind (arith, rising_if_proper f.0 fields p.1)
 
 behind_first : (tag : ℕ) (p : List ℕ) (fields : List (ℕ × List ℕ)) → behind tag ((tag, p) ∷ fields) ≡ p
-behind_first tag p fields = cond-true (eqb tag tag) p (behind tag fields) (eq-eqb tag tag refl)
+behind_first tag p fields = grind arith
 
 behind_other : (t tag : ℕ) (p : List ℕ) (fields : List (ℕ × List ℕ)) → (t ≡ tag → ⊥) → behind t ((tag, p) ∷ fields) ≡ behind t fields
-behind_other t tag p fields other = cond-false (eqb t tag) p (behind t fields) (ne_eqb t tag other)
+behind_other t tag p fields other = grind arith
 
 -- where the bytes behind each tag have no fault, the fields may stand
 pub proper_if_held : (last : ℕ) (fields : List (ℕ × List ℕ)) → Rising last fields → ((t : ℕ) → last < t → t ≤ 4 → field_fault t (behind t fields) ≡ None) → Proper last fields
 proper_if_held last [] r h = tt
-proper_if_held last (f ∷ fields) r h =
-    let first = ap (field_fault f.0) (sym (behind_first f.0 f.1 fields)) ∙ h f.0 r.0.0 r.0.1 in (
-      (r.0.0, r.0.1, first),
-      proper_if_held f.0 fields r.1 (λ t a b. ap (field_fault t) (sym (behind_other t f.0 f.1 fields (λ e. omega arith))) ∙ h t (omega (arith, r.0.0)) b),
-    )
+proper_if_held last (f ∷ fields) r h = grind (arith, behind_first, behind_other, proper_if_held f.0 fields, h)
 
 -- such fields are passed
 pub proper_passed : (n place last i : ℕ) (known : Known) (fields : List (ℕ × List ℕ)) (fs : List Frame) → Proper last fields → read_fields n place last known (placed i fields ++ fs) ≡ read_fields n place (last_tag last fields) (known_at known (placed i fields)) fs
@@ -52,15 +48,11 @@ pub record Parts (known : Known) (fields : List (ℕ × List ℕ)) (all : Known)
 
 pub parts : (i : ℕ) (known : Known) (fields : List (ℕ × List ℕ)) → Parts known fields (known_at known (placed i fields))
 parts i known [] = record { name = refl; publisher = refl; print = refl; online = refl }
-parts i known (f ∷ fields) =
-    let r = parts (i + 3 + length f.1) (noted f.0 f.1 known) fields in
-    record { name = r.name; publisher = r.publisher; print = r.print; online = r.online }
+parts i known (f ∷ fields) = grind (arith, parts (i + 3 + length f.1) (noted f.0 f.1 known) fields)
 
 part_stays : {V : Type 0} (t : ℕ) (value : List ℕ → Option V) (known : Option V) (last : ℕ) (fields : List (ℕ × List ℕ)) → Proper last fields → t ≤ last → part t value known fields ≡ known
 part_stays t value known last [] p h = refl
-part_stays t value known last (f ∷ fields) p h =
-    ap (λ o. part t value o fields) (cond-false (eqb t f.0) (value f.1) known (ne_eqb t f.0 (λ e. omega (arith, p.0.0))))
-    ∙ part_stays t value known f.0 fields p.1 (omega (arith, p.0.0))
+part_stays t value known last (f ∷ fields) p h = grind (arith, part_stays t value known f.0 fields)
 
 -- a tag that no field has; or the one field that has it says what is known behind it
 abbrev Absent : {V : Type 0} → ℕ → (List ℕ → Option V) → Option V → List (ℕ × List ℕ) → Type 0
@@ -75,38 +67,18 @@ absent_or_present t value known last [] p = inl (refl, refl)
 absent_or_present t value known last (f ∷ fields) p =
     ⊎_elim
     (λ e. let same = eqb-true t f.0 e in
-    let bytes = cond-true (eqb t f.0) f.1 (behind t fields) e in
-    inr (record {
-      is = ap (λ o. part t value o fields) (cond-true (eqb t f.0) (value f.1) known e) ∙ part_stays t value (value f.1) f.0 fields p.1 (omega arith) ∙ ap value (sym bytes);
-      right = ap (field_fault t) bytes ∙ ap (λ k. field_fault k f.1) same ∙ p.0.2;
-    }))
-    (λ e. let known_on = ap (λ o. part t value o fields) (cond-false (eqb t f.0) (value f.1) known e) in
-    let bytes = cond-false (eqb t f.0) f.1 (behind t fields) e in
-    ⊎_elim
-    (λ a. inl (known_on ∙ a.0, bytes ∙ a.1))
-    (λ a. inr (record { is = known_on ∙ a.is ∙ ap value (sym bytes); right = ap (field_fault t) bytes ∙ a.right }))
-    (absent_or_present t value known f.0 fields p.1))
+    let stays = part_stays t value (value f.1) f.0 fields p.1 (omega arith) in
+    inr (record { is = grind arith; right = grind arith }))
+    (λ e. grind (arith, absent_or_present t value known f.0 fields p.1))
     (cases_Bool (eqb t f.0))
 
 -- what a field of a text says
 pub text_found : (t last : ℕ) (fields : List (ℕ × List ℕ)) (x : List ℕ) → Proper last fields → part t Some None fields ≡ Some x → (behind t fields ≡ x) × (field_fault t x ≡ None)
-text_found t last fields x p e =
-    ⊎_elim
-    (λ a. let z : ◌≡◌ {A = ℕ} 0 1 = cc in absurd (omega arith))
-    (λ a. let same : behind t fields ≡ x = cc in (same, ap (field_fault t) (sym same) ∙ a.right))
-    (absent_or_present t Some None last fields p)
+text_found t last fields x p e = grind (arith, absent_or_present)
 
 pub text_there : (t last : ℕ) (fields : List (ℕ × List ℕ)) (x : List ℕ) → Proper last fields → behind t fields ≡ x → (length x ≡ 0 → ⊥) → part t Some None fields ≡ Some x
-text_there t last fields x p e some =
-    ⊎_elim
-    (λ a. absurd (some (ap length (sym e ∙ a.1))))
-    (λ a. a.is ∙ ap Some e)
-    (absent_or_present t Some None last fields p)
+text_there t last fields x p e some = grind (arith, absent_or_present)
 
 -- what a field of an ISSN says; where there is none, it is blank
 pub issn_found : (t last : ℕ) (fields : List (ℕ × List ℕ)) → Proper last fields → field_fault t [] ≡ None → (part t issn_of None fields ≡ issn_of (behind t fields)) × (field_fault t (behind t fields) ≡ None)
-issn_found t last fields p blank =
-    ⊎_elim
-    (λ a. (a.0 ∙ ap issn_of (sym a.1), ap (field_fault t) a.1 ∙ blank))
-    (λ a. (a.is, a.right))
-    (absent_or_present t issn_of None last fields p)
+issn_found t last fields p blank = grind (arith, absent_or_present t issn_of None last fields)

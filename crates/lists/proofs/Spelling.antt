@@ -1,16 +1,14 @@
 -- A group is read exactly where its contents spell an entry.
-use Rattle.std.proofs.Common.{◌≡◌, ℕ, zero, suc, ◌<◌, ◌≤◌, true, ◌&&◌, List, [], ◌∷◌, map, Some, None, Ok, Err, Option, Result, sym, refl, ap, ◌∙◌, arith}
+use Rattle.std.proofs.Common.{◌≡◌, ℕ, ◌<◌, ◌≤◌, true, List, [], ◌∷◌, map, Some, None, Ok, Option, sym, refl, ap, ◌∙◌, arith}
 use Rattle.std.proofs.lemmas.List.{append-nil}
-use Rattle.std.proofs.lemmas.Bool.{and_from, and_parts}
 use Rattle.std.specs.List.{AllByRecursion}
-use Rattle.groups.specs.Frames.{Frame, bytes_of, choose, frames}
+use Rattle.groups.specs.Frames.{Frame, bytes_of, frames}
 use Rattle.groups.specs.Written.{Bytes, placed}
 use Rattle.groups.proofs.Spelling.{row_spelled}
 use Rattle.groups.proofs.Whole.{Whole, pair_of, whole_blocks_close}
 use Rattle.groups.proofs.Writing.{whole_row_written}
 use Rattle.texts.specs.Texts.{is_text}
-use Rattle.titles.specs.declared.issn.Issn.{Issn}
-use Rattle.titles.specs.Titles.{Entry, is_blank_or_issn, is_entry, issn_bytes, new_entry}
+use Rattle.titles.specs.Titles.{Entry, is_blank_or_issn, is_entry, issn_bytes}
 use Rattle.lists.specs.declared.fault.ListCause.{ListCause}
 use Rattle.lists.specs.Broken.{Proper}
 use Rattle.lists.specs.Entries.{Known, complete, entry_or, known_at, noted, nothing_known, read_fields, read_group}
@@ -21,7 +19,7 @@ use Rattle.lists.proofs.Proper.{issn_found, parts, proper_if_held, proper_passed
 use Rattle.lists.proofs.Values.{clear_if_issn, clear_if_text, issn_if_clear, text_if_clear, text_not_empty}
 
 complete_by : (k : Known) (e : Entry) → k.name ≡ Some e.name → k.publisher ≡ Some e.publisher → k.print ≡ e.print → k.online ≡ e.online → complete k ≡ Ok e
-complete_by k e a b c d = λ j. choose (a j) (Err 1) (λ name. choose (b j) (Err 2) (λ publisher. Ok (new_entry name publisher (c j) (d j))))
+complete_by k e a b c d = grind arith
 
 -- the parts of an entry that is right
 record RightParts (e : Entry) : Type 0 where
@@ -31,19 +29,13 @@ record RightParts (e : Entry) : Type 0 where
   online : is_blank_or_issn e.online ≡ true
 
 right_parts : (e : Entry) → is_entry e ≡ true → RightParts e
-right_parts e h =
-    let a = and_parts (is_text e.name && is_text e.publisher && is_blank_or_issn e.print) (is_blank_or_issn e.online) h in
-    let b = and_parts (is_text e.name && is_text e.publisher) (is_blank_or_issn e.print) a.0 in
-    let c = and_parts (is_text e.name) (is_text e.publisher) b.0 in
-    record { name = c.0; publisher = c.1; print = b.1; online = a.1 }
+right_parts e h = grind arith
+
+right_by : (e : Entry) → is_text e.name ≡ true → is_text e.publisher ≡ true → is_blank_or_issn e.print ≡ true → is_blank_or_issn e.online ≡ true → is_entry e ≡ true
+right_by e a b c d = grind arith
 
 each_tag : (P : ℕ → Type 0) → P 1 → P 2 → P 3 → P 4 → (t : ℕ) → 0 < t → t ≤ 4 → P t
-each_tag P a b c d zero g h = absurd (omega arith)
-each_tag P a b c d (suc zero) g h = a
-each_tag P a b c d (suc (suc zero)) g h = b
-each_tag P a b c d (suc (suc (suc zero))) g h = c
-each_tag P a b c d (suc (suc (suc (suc zero)))) g h = d
-each_tag P a b c d (suc (suc (suc (suc (suc t))))) g h = absurd (omega arith)
+each_tag P a b c d t g h = grind arith
 
 -- a group that spells an entry says it
 pub spelled_group : (n place : ℕ) (p : List ℕ) (e : Entry) → Spells p e → read_group n place p ≡ Ok e
@@ -81,18 +73,14 @@ with_field_lem f known = noted f.tag (bytes_of f.contents) known
 
 clear_field : (n place last : ℕ) (known : Known) (f : Frame) (fs : List Frame) (e : Entry) (o : Option ListCause) → cause_of last f ≡ o → (read_fields n place f.tag (with_field_lem f known) fs ≡ Ok e → Clear f.tag (with_field_lem f known) fs e) → read_fields n place last known (f ∷ fs) ≡ Ok e → Clear last known (f ∷ fs) e
 clear_field n place last known f fs e (Some cause) h others r =
-    let told = faulty_field n place last known f fs cause h in let z : ◌≡◌ {A = ℕ} 0 1 = cc in absurd (omega arith)
+    let told = faulty_field n place last known f fs cause h in cc
 clear_field n place last known f fs e None h others r =
     let s = stands_if_clear last f h in
     let k = others (sym (next_field n place last known f fs h) ∙ r) in
     record { whole = (s.whole, k.whole); proper = ((s.rises, s.known, s.clear), k.proper); says = k.says }
 
-said_entry : (n place : ℕ) (r : Result Entry ℕ) (e : Entry) → entry_or n place r ≡ Ok e → r ≡ Ok e
-said_entry n place (Ok x) e h = cc
-said_entry n place (Err tag) e h = let z : ◌≡◌ {A = ℕ} 0 1 = cc in absurd (omega arith)
-
 clear_fields : (n place last : ℕ) (known : Known) (fs : List Frame) (e : Entry) → read_fields n place last known fs ≡ Ok e → Clear last known fs e
-clear_fields n place last known [] e r = record { whole = tt; proper = tt; says = said_entry n place (complete known) e r }
+clear_fields n place last known [] e r = record { whole = tt; proper = tt; says = grind arith }
 clear_fields n place last known (f ∷ fs) e r = clear_field n place last known f fs e (cause_of last f) refl (clear_fields n place f.tag (with_field_lem f known) fs e) r
 
 -- the parts of what is complete
@@ -102,20 +90,8 @@ record Completed (k : Known) (e : Entry) : Type 0 where
   print : k.print ≡ e.print
   online : k.online ≡ e.online
 
-completed_by : (a b : Option (List ℕ)) (c d : Option Issn) (e : Entry) → complete (record { name = a; publisher = b; print = c; online = d }) ≡ Ok e → Completed (record { name = a; publisher = b; print = c; online = d }) e
-completed_by None b c d e h = let z : ◌≡◌ {A = ℕ} 0 1 = cc in absurd (omega arith)
-completed_by (Some x) None c d e h = let z : ◌≡◌ {A = ℕ} 0 1 = cc in absurd (omega arith)
-completed_by (Some x) (Some y) c d e h =
-    let s : new_entry x y c d ≡ e = cc in
-    record {
-      name = ap (λ (e : Entry). Some e.name) s;
-      publisher = ap (λ (e : Entry). Some e.publisher) s;
-      print = ap (λ (e : Entry). e.print) s;
-      online = ap (λ (e : Entry). e.online) s;
-    }
-
 completed : (k : Known) (e : Entry) → complete k ≡ Ok e → Completed k e
-completed k e h = completed_by k.name k.publisher k.print k.online e h
+completed k e h = grind arith
 
 -- and one that says an entry spells it
 pub spells_if_read : (n place : ℕ) (p : List ℕ) (e : Entry) → Bytes p → read_group n place p ≡ Ok e → Spells p e
@@ -141,9 +117,5 @@ spells_if_read n place p e b r =
       publisher = publisher.0;
       print = sym print_shown.0 ∙ ap issn_bytes (sym print_is);
       online = sym online_shown.0 ∙ ap issn_bytes (sym online_is);
-      right = and_from (is_text e.name && is_text e.publisher && is_blank_or_issn e.print) (is_blank_or_issn e.online)
-          (and_from (is_text e.name && is_text e.publisher) (is_blank_or_issn e.print)
-          (and_from (is_text e.name) (is_text e.publisher) (text_if_clear e.name name.1) (text_if_clear e.publisher publisher.1))
-          (ap is_blank_or_issn print_is ∙ print_shown.1))
-          (ap is_blank_or_issn online_is ∙ online_shown.1);
+      right = right_by e (text_if_clear e.name name.1) (text_if_clear e.publisher publisher.1) (ap is_blank_or_issn print_is ∙ print_shown.1) (ap is_blank_or_issn online_is ∙ online_shown.1);
     }

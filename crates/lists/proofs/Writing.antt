@@ -1,5 +1,5 @@
 -- A list that is written spells the entries that were written.
-use Rattle.std.proofs.Common.{◌≡◌, ◌≤◌, true, List, [], ◌∷◌, map, length, refl, lit<, lit≤}
+use Rattle.std.proofs.Common.{◌≡◌, ◌≤◌, true, List, [], ◌∷◌, map, length, refl, rules}
 use Rattle.std.specs.List.{AllByRecursion}
 use Rattle.groups.specs.Written.{written_row}
 use Rattle.titles.specs.Titles.{Entry, is_entry}
@@ -9,7 +9,7 @@ written_spells : (e : Entry) → is_entry e ≡ true → Spells (written_row (fi
 written_spells e h = record {
   fields = fields_of e;
   bytes = refl;
-  rising = ((lit< tt, lit≤ tt), ((lit< tt, lit≤ tt), ((lit< tt, lit≤ tt), ((lit< tt, lit≤ tt), tt))));
+  rising = search rules;
   name = refl;
   publisher = refl;
   print = refl;

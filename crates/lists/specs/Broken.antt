@@ -6,9 +6,10 @@ use Rattle.titles.specs.Titles.{Entry}
 use Rattle.lists.specs.declared.fault.ListCause.{ListCause}
 use Rattle.lists.specs.declared.fault.ListCause.TheVariants.{NoGroup, SurplusGroup, BrokenGroup, MissingField}
 use Rattle.lists.specs.declared.fault.ListFault.{ListFault}
+use Rattle.lists.specs.declared.field.Field.{Field}
 use Rattle.lists.specs.Entries.{Known, complete, fault_at, group_contents, known_at, nothing_known}
 use Rattle.lists.specs.Faults.{group_fault, new_fault}
-use Rattle.lists.specs.Fields.{cause_of, field_fault}
+use Rattle.lists.specs.Fields.{cause_of, field_fault, tag_of}
 use Rattle.lists.specs.Written.{SpellAll, written_groups}
 
 -- fields that may stand: the tags rise from behind `last`, and the bytes behind each have no fault
@@ -25,7 +26,7 @@ last_tag last (f ∷ fields) = last_tag f.0 fields
 -- left, the name or the publisher is missing, which lies at the group; else the next field may not stand, whose tag is
 -- the byte k of the group's contents
 abbrev pub WrongField : ℕ → ℕ → ℕ → ℕ → Known → List ℕ → ListFault → Type 0
-WrongField n place k last known [] fault = (tag : ℕ) × (complete known ≡ Err tag) × (fault ≡ new_fault n tag place MissingField)
+WrongField n place k last known [] fault = (field : Field) × (complete known ≡ Err field) × (fault ≡ new_fault n (tag_of field) place MissingField)
 WrongField n place k last known (tag ∷ bs) fault =
     (cause : ListCause) × (cause_of last (new_frame k tag (counted bs)) ≡ Some cause) × (fault ≡ fault_at n (place + 3 + k) tag cause)
 

@@ -1,6 +1,6 @@
 -- What a group says: an entry of the list.
 use Rattle.std.specs.Prelude.{ℕ, ◌+◌, cond, List, [], ◌∷◌, Some, None, Ok, Err, Option, Result, ◌==◌, nat_le}
-use Rattle.groups.specs.Frames.{Frame, bytes_of, choose, frames, held}
+use Rattle.groups.specs.Frames.{Frame, bytes_of, choose, contents_under, frames, held}
 use Rattle.titles.specs.declared.issn.Issn.{Issn}
 use Rattle.titles.specs.Titles.{Entry, new_entry}
 use Rattle.lists.specs.declared.draft.Draft.{Draft}
@@ -8,8 +8,10 @@ use Rattle.lists.specs.declared.fault.FieldFault.{FieldFault}
 use Rattle.lists.specs.declared.fault.ListCause.{ListCause}
 use Rattle.lists.specs.declared.fault.ListCause.TheVariants.{SurplusGroup, BrokenGroup, MissingField}
 use Rattle.lists.specs.declared.fault.ListFault.{ListFault}
+use Rattle.lists.specs.declared.field.Field.{Field}
+use Rattle.lists.specs.declared.field.Field.TheVariants.{Name, Publisher}
 use Rattle.lists.specs.Faults.{byte_of, field_of, group_fault, new_fault}
-use Rattle.lists.specs.Fields.{cause_of, field_fault, issn_of}
+use Rattle.lists.specs.Fields.{cause_of, field_fault, issn_of, tag_of}
 
 -- what is known of an entry from some of its fields
 pub record Known : Type 0 where
@@ -21,6 +23,10 @@ pub record Known : Type 0 where
 -- what a draft in lent bytes says
 abbrev pub known_of : Draft → Known
 known_of d = record { name = held d.name; publisher = held d.publisher; print = d.print; online = d.online }
+
+-- the tag of the field that was noted last, or 0
+abbrev pub last_of : Draft → ℕ
+last_of d = choose d.last 0 tag_of
 
 abbrev pub nothing_known : Known
 nothing_known = record { name = None; publisher = None; print = None; online = None }
@@ -47,24 +53,14 @@ abbrev pub known_at : Known → List Frame → Known
 known_at known [] = known
 known_at known (f ∷ fs) = known_at (noted f.tag (bytes_of f.contents) known) fs
 
--- the entry, if its name and its publisher are there, else the tag of the first that is not
-abbrev pub complete : Known → Result Entry ℕ
+-- the entry, if its name and its publisher are there, else the first of these fields that is not
+abbrev pub complete : Known → Result Entry Field
 complete known =
-    choose known.name (Err 1) (λ name. choose known.publisher (Err 2) (λ publisher. Ok (new_entry name publisher known.print known.online)))
-
--- an answer with the fault that tells its cause
-abbrev pub or_fault : {A : Type 0} → (ListCause → ListFault) → Result A ListCause → Result A ListFault
-or_fault told (Ok x) = Ok x
-or_fault told (Err cause) = Err (told cause)
+    choose known.name (Err Name) (λ name. choose known.publisher (Err Publisher) (λ publisher. Ok (new_entry name publisher known.print known.online)))
 
 -- the fault of a field of the entry n that stands at this place of the list
 abbrev pub fault_at : ℕ → ℕ → ℕ → ListCause → ListFault
 fault_at n place tag cause = new_fault n (field_of cause tag) (byte_of cause place) cause
-
--- with a field of the entry n, else the fault of the field; the first byte of the group's fields stands at the byte
--- `start` of the list
-abbrev pub read_field : ℕ → ℕ → ℕ → Frame → Known → Result Known ListFault
-read_field n start last f known = or_fault (fault_at n (start + f.place) f.tag) (with_field last f known)
 
 -- the fault of the first field that has one; the field before them has the tag `last`, and the first byte of the
 -- group's fields stands at the byte `start` of the list
@@ -74,9 +70,9 @@ first_fault n start last (f ∷ fs) =
     choose (cause_of last f) (first_fault n start f.tag fs) (λ cause. Some (fault_at n (start + f.place) f.tag cause))
 
 -- the entry n, if it is complete, else the fault of the field that is missing, which lies at the group
-abbrev pub entry_or : ℕ → ℕ → Result Entry ℕ → Result Entry ListFault
+abbrev pub entry_or : ℕ → ℕ → Result Entry Field → Result Entry ListFault
 entry_or n place (Ok e) = Ok e
-entry_or n place (Err tag) = Err (new_fault n tag place MissingField)
+entry_or n place (Err field) = Err (new_fault n (tag_of field) place MissingField)
 
 -- what the fields of the entry n say, whose group stands at `place`, where some is known from fields before them, the
 -- last of which has the tag `last`: the first fault; else what is missing; else the entry
@@ -89,7 +85,7 @@ read_group n place contents = read_fields n place 0 nothing_known (frames 0 cont
 
 -- the fields of a block, if it is a group (tag 0x30) and whole
 abbrev pub group_contents : Frame → Option (List ℕ)
-group_contents f = cond (f.tag == 48) f.contents None
+group_contents f = contents_under 48 f
 
 -- what the entry n says, by its block; a list has no entry 512
 abbrev pub read_entry : ℕ → Frame → Result Entry ListFault

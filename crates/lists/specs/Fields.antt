@@ -1,6 +1,6 @@
 -- The fields of a group, and why one may not stand.
 use Rattle.std.specs.Borrow.{Bor}
-use Rattle.std.specs.Prelude.{ℕ, Bool, cond, ◌||◌, List, [], ◌∷◌, Some, None, Ok, Err, Option, Result, nat_le, nat_lt}
+use Rattle.std.specs.Prelude.{◌≡◌, ℕ, ◌<◌, ◌≤◌, Bool, cond, ◌||◌, List, [], ◌∷◌, Some, None, Ok, Err, Option, Result, nat_le, nat_lt}
 use Rattle.groups.specs.Frames.{Frame, choose}
 use Rattle.titles.specs.declared.issn.Issn.{Issn as IssnOfTitle}
 use Rattle.titles.specs.Issns.{read_issn}
@@ -9,6 +9,20 @@ use Rattle.lists.specs.declared.fault.FieldFault.{FieldFault}
 use Rattle.lists.specs.declared.fault.FieldFault.TheVariants.{Text, Issn}
 use Rattle.lists.specs.declared.fault.ListCause.{ListCause}
 use Rattle.lists.specs.declared.fault.ListCause.TheVariants.{MisplacedTag, CutField, Field}
+use Rattle.lists.specs.declared.field.Field.{Field as NamedField}
+use Rattle.lists.specs.declared.field.Field.TheVariants.{Name, Publisher, Print, Online}
+
+-- the tag of a field
+abbrev pub tag_of : NamedField → ℕ
+tag_of Name = 1
+tag_of Publisher = 2
+tag_of Print = 3
+tag_of Online = 4
+
+-- the field with this tag, or the cause that no field has it
+abbrev pub Tagged : ℕ → Result NamedField ListCause → Type 0
+Tagged tag (Ok field) = tag_of field ≡ tag
+Tagged tag (Err cause) = (cause ≡ MisplacedTag) × (1 ≤ tag → 4 < tag)
 
 -- the fault of an answer, turned into that of a field
 abbrev pub fault_in : {A E : Type 0} → (E → FieldFault) → Result A E → Option FieldFault

@@ -5,10 +5,12 @@ ghost use Rattle.lists.specs.declared.fault.ListCause.TheVariants.{Field};
 ghost use Rattle.lists.specs.declared.fault.ListRefusal.TheVariants.{Broken};
 ghost use Rattle.lists.specs.Faults.{byte_of, field_fault_place, field_of, group_fault};
 
+use std::error::Error;
+use std::fmt;
 use titles::{IssnFault, TextFault};
 
 /// Why the bytes of a field are not what the field should hold.
-#[derive(Clone, Copy)]
+#[derive(Clone, Copy, Debug, PartialEq, Eq)]
 pub enum FieldFault {
     /// They are no text.
     Text(TextFault),
@@ -17,7 +19,7 @@ pub enum FieldFault {
 }
 
 /// Why a list is broken.
-#[derive(Clone, Copy)]
+#[derive(Clone, Copy, Debug, PartialEq, Eq)]
 pub enum ListCause {
     /// It is empty.
     NoGroup,
@@ -36,11 +38,11 @@ pub enum ListCause {
 }
 
 /// The first fault of a list.
-#[derive(Clone, Copy)]
+#[derive(Clone, Copy, Debug, PartialEq, Eq)]
 pub struct ListFault {
     /// The number of the group, from 0.
     pub entry: usize,
-    /// The tag of the field; 0 where the fault is the whole group's.
+    /// The tag of the field; 0 where the fault is the whole group's. It is a number, since the refusal tells it as one.
     pub field: u8,
     /// The place in the list, from 0, of the first unfit byte, or of the tag of what is at fault.
     pub byte: usize,
@@ -48,7 +50,7 @@ pub struct ListFault {
 }
 
 /// Why a list was not read.
-#[derive(Clone, Copy)]
+#[derive(Clone, Copy, Debug, PartialEq, Eq)]
 pub enum ListRefusal {
     /// Refusal 10: the list is broken.
     Broken(ListFault),
@@ -88,6 +90,58 @@ impl From<ListFault> for ListRefusal {
     }
 }
 
+impl fmt::Display for FieldFault {
+    fn fmt<W: fmt::Write>(&self, f: &mut fmt::Formatter<W>) -> fmt::Result {
+        match self {
+            FieldFault::Text(fault) => write!(f, "no text: {fault}"),
+            FieldFault::Issn(fault) => write!(f, "no ISSN: {fault}"),
+        }
+    }
+}
+
+impl fmt::Display for ListCause {
+    fn fmt<W: fmt::Write>(&self, f: &mut fmt::Formatter<W>) -> fmt::Result {
+        match self {
+            ListCause::NoGroup => write!(f, "no group"),
+            ListCause::SurplusGroup => write!(f, "a 513th group"),
+            ListCause::BrokenGroup => write!(f, "no whole group"),
+            ListCause::MisplacedTag => write!(f, "a misplaced tag"),
+            ListCause::CutField => write!(f, "a field that is cut off"),
+            ListCause::Field(fault) => write!(f, "{fault}"),
+            ListCause::MissingField => write!(f, "a missing field"),
+        }
+    }
+}
+
+impl fmt::Display for ListFault {
+    fn fmt<W: fmt::Write>(&self, f: &mut fmt::Formatter<W>) -> fmt::Result {
+        let ListFault {
+            entry,
+            field,
+            byte,
+            cause,
+        } = self;
+        write!(f, "entry {entry}, field {field}, byte {byte}: {cause}")
+    }
+}
+
+impl fmt::Display for ListRefusal {
+    fn fmt<W: fmt::Write>(&self, f: &mut fmt::Formatter<W>) -> fmt::Result {
+        match self {
+            ListRefusal::Broken(fault) => write!(f, "{fault}"),
+            ListRefusal::TableTooShort => write!(f, "more titles than the table has entries"),
+        }
+    }
+}
+
+impl Error for FieldFault {}
+
+impl Error for ListCause {}
+
+impl Error for ListFault {}
+
+impl Error for ListRefusal {}
+
 impl FieldFault {
     /// The byte at fault, counted from the first of the field. A wrong length lies at none.
     pub fn place(&self) -> Option<usize>
@@ -116,12 +170,9 @@ impl ListCause {
         requires { byte_of self place < 2 ^ 64 }
         ensures { result ≡ byte_of self place }
     {
-        let ListCause::Field(fault) = self else {
-            return place;
-        };
-        match fault.place() {
-            Some(unfit) => place + 3 + unfit,
-            None => place,
+        match self {
+            ListCause::Field(fault) => fault.place().map_or(place, |unfit| place + 3 + unfit),
+            _ => place,
         }
     }
 }

@@ -4,6 +4,7 @@
 mod draft;
 mod entry;
 mod fault;
+mod field;
 mod list;
 #[cfg(test)]
 mod tests;

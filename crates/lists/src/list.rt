@@ -1,5 +1,5 @@
 //! A whole list, read into a table.
-ghost use Rattle.std.specs.Prelude.{◌≡◌, ◌<◌, ◌≤◌, true, ◌↔◌, List, length, is_ok, Ok, Err};
+ghost use Rattle.std.specs.Prelude.{◌≡◌, ◌<◌, ◌≤◌, true, ◌↔◌, List, length, Ok, Err};
 ghost use Rattle.std.specs.List.{AllByRecursion};
 ghost use Rattle.titles.specs.Places.{map_ok};
 ghost use Rattle.titles.specs.Titles.{Entry, is_entry};
@@ -13,47 +13,24 @@ use crate::fault::{ListCause, ListFault, ListRefusal};
 use groups::Blocks;
 use titles::Title;
 
-/// The number of titles of a list, or its first fault.
-fn judge(list: &[u8]) -> Result<usize, ListFault>
-    ensures { result ≡ map_ok length (read_list list.now) }
+/// Reads the titles of a list into a table, as far as it has room, and counts them all; or tells the first fault.
+fn read_titles<'a>(list: &'a [u8], table: &mut [Title<'a>]) -> Result<usize, ListFault>
+    ensures counted { result ≡ map_ok length (read_list list.now) }
+    ensures filled { Fits (read_list list.now) (length table.old) → FilledFrom (read_list list.now) table.old table.new }
 {
     if list.is_empty() {
         return Err(ListFault::of_group(0, 0, ListCause::NoGroup));
     }
-    let mut groups = Blocks::new(list);
+    // The count is the answer in the end, so the loop keeps it, and needs no number beside it.
     let mut count = 0;
-    while let Some(group) = groups.next() {
-        read_entry(count, &group)?;
+    for group in Blocks::new(list) {
+        let title = read_entry(count, &group)?;
+        // Written by its index: behind a borrow of one entry nothing would be known of the others.
+        if count < table.len() {
+            table[count] = title;
+        }
         count += 1;
     }
-    Ok(count)
-}
-
-/// Fills the table with the titles of a list that was judged right.
-fn fill<'a>(list: &'a [u8], table: &mut [Title<'a>]) -> Result<(), ListFault>
-    requires { Fits (read_list list.now) (length table.old) }
-    ensures right { is_ok result ≡ true }
-    ensures filled { FilledFrom (read_list list.now) table.old table.new }
-{
-    let mut groups = Blocks::new(list);
-    let mut count = 0;
-    while let Some(group) = groups.next() {
-        table[count] = read_entry(count, &group)?;
-        count += 1;
-    }
-    Ok(())
-}
-
-/// Judges a list whole, and fills the table with its titles if it is right and they have room there.
-fn read_into<'a>(list: &'a [u8], table: &mut [Title<'a>]) -> Result<usize, ListRefusal>
-    ensures read { result ≡ answer (length table.old) (read_list list.now) }
-    ensures table { TableAfter result (read_list list.now) table.old table.new }
-{
-    let count = judge(list)?;
-    if count > table.len() {
-        return Err(ListRefusal::TableTooShort);
-    }
-    fill(list, table)?;
     Ok(count)
 }
 
@@ -73,5 +50,10 @@ pub fn read_list<'a>(list: &'a [u8], table: &mut [Title<'a>]) -> Result<usize, L
     ensures short { RefusedWith 11 result ↔ ((es : List Entry) × SpelledList list.now es × (length table.old < length es)) }
     ensures written { (es : List Entry) → AllByRecursion (λ e. is_entry e ≡ true) es → 1 ≤ length es → length es ≤ 512 → length es ≤ length table.old → list.now ≡ written_list es → (result ≡ Ok (length es)) × Filled es table.old table.new }
 {
-    read_into(list, table)
+    let count = read_titles(list, &mut [])?;
+    if count > table.len() {
+        return Err(ListRefusal::TableTooShort);
+    }
+    read_titles(list, table)?;
+    Ok(count)
 }

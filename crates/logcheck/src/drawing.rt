@@ -3,6 +3,7 @@ use columns::MonthScheme;
 use ledger::{Open, Tallies};
 use logs::Log;
 use records::{AddressRule, Request};
+use std::fmt;
 
 /// More items than a log of this program has.
 const ITEMS: usize = 16;
@@ -13,6 +14,16 @@ pub(crate) enum Fate {
     Accepted,
     PassedOver,
     Refused,
+}
+
+impl fmt::Display for Fate {
+    fn fmt<W: fmt::Write>(&self, f: &mut fmt::Formatter<W>) -> fmt::Result {
+        f.write_str(match self {
+            Fate::Accepted => "accepted",
+            Fate::PassedOver => "passed over",
+            Fate::Refused => "refused",
+        })
+    }
 }
 
 const NO_REQUEST: Request = Request {
@@ -50,10 +61,10 @@ fn draw_singly(
 ) -> [Option<Fate>; ITEMS] {
     let mut fates = [None; ITEMS];
     let mut log = Log::new(bytes);
-    for i in 0..ITEMS {
+    for fate in &mut fates {
         let before = ledger.tallies();
         let _ = ledger.draw(waiting, cells, &mut log, 1);
-        fates[i] = fate_between(before, ledger.tallies());
+        *fate = fate_between(before, ledger.tallies());
     }
     fates
 }

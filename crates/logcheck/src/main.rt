@@ -5,8 +5,8 @@ mod drawing;
 
 use anyhow::anyhow;
 use drawing::{Fate, fates};
-use logs::{Log, cause_number};
-use records::{Cause, Damage, Item, Request, Source};
+use logs::Log;
+use records::{Damage, Request, Source};
 
 /// Whole groups, good and damaged, and one that is cut off. At the end of each line is the place of its first byte.
 #[rattlefmt::skip]
@@ -104,20 +104,10 @@ const TWO_BYTES: [u8; 2] = [0x20, 0x00];
 
 const EMPTY: [u8; 0] = [];
 
-fn words(cause: Cause) -> &'static str {
-    match cause {
-        Cause::MisplacedTag => "unknown or misplaced tag",
-        Cause::BrokenGroup => "broken group",
-        Cause::BlankField => "blank or missing field",
-        Cause::WrongLength => "wrong length",
-    }
-}
-
 fn print_damage(rt: &HostRuntime, damage: Damage) -> anyhow::Result<()> {
-    let number = cause_number(damage.cause);
-    let words = words(damage.cause);
-    let place = damage.place;
-    print!(rt; "  unreadable, cause {number}, {words}, at {place}")?;
+    let Damage { cause, place } = damage;
+    let number = u8::from(cause);
+    print!(rt; "  unreadable, cause {number}, {cause}, at {place}")?;
     Ok(())
 }
 
@@ -144,9 +134,7 @@ fn print_request(rt: &HostRuntime, request: Request) -> anyhow::Result<()> {
 
 fn print_fate(rt: &HostRuntime, fate: Option<Fate>) -> anyhow::Result<()> {
     match fate {
-        Some(Fate::Accepted) => println!(rt; ": accepted")?,
-        Some(Fate::PassedOver) => println!(rt; ": passed over")?,
-        Some(Fate::Refused) => println!(rt; ": refused")?,
+        Some(fate) => println!(rt; ": {fate}")?,
         None => println!(rt; ": not drawn")?,
     }
     Ok(())
@@ -160,8 +148,8 @@ fn print_items(rt: &HostRuntime, bytes: &[u8]) -> anyhow::Result<()> {
     let mut log = Log::new(bytes);
     for fate in &fates {
         match log.take() {
-            Some(Item::Readable(request)) => print_request(rt, request)?,
-            Some(Item::Unreadable(damage)) => print_damage(rt, damage)?,
+            Some(Ok(request)) => print_request(rt, request)?,
+            Some(Err(damage)) => print_damage(rt, damage)?,
             None => break,
         }
         print_fate(rt, *fate)?;

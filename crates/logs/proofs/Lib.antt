@@ -1,9 +1,7 @@
 pub mod Bytes
-pub mod Numbering
 pub mod Fielding
 pub mod Spelling
 pub mod Logging
 pub mod Parting
 pub mod Writing
-pub mod Causes
 pub mod Damaging

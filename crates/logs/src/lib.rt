@@ -1,11 +1,9 @@
 //! Tagged logs: the requests of a web server, and groups that cannot be read, as a source of items.
 #![tactic(auto)]
 
-mod cause;
 mod field;
 mod group;
 mod log;
 mod numbers;
 
-pub use cause::cause_number;
 pub use log::Log;

@@ -1,7 +1,7 @@
 -- The second pass fills the tables with what was read.
-use Rattle.std.proofs.Common.{◌≡◌, ℕ, suc, ◌+◌, ◌*◌, ◌≤◌, Bool, true, false, not, ◌&&◌, ◌||◌, leb, List, [], ◌∷◌, ◌++◌, map, length, drop, set, Ok, fold, sym, refl, ap, ◌∙◌, subst, ⊎_elim, add-zero, mul-le-mul_right, suc-mul, add-mul, one-mul, zero-add, zero-mul, mul-one, arith}
+use Rattle.std.proofs.Common.{◌≡◌, ℕ, suc, ◌+◌, ◌*◌, ◌≤◌, Bool, true, false, List, [], ◌∷◌, ◌++◌, map, length, drop, set, Ok, fold, sym, refl, ap, ◌∙◌, subst, add-zero, mul-le-mul_right, suc-mul, add-mul, one-mul, zero-add, zero-mul, mul-one, arith}
+use Rattle.std.proofs.lemmas.List.Concat.{flat_map_single}
 use Rattle.std.proofs.lemmas.List.{length-append}
-use Rattle.std.proofs.lemmas.Bool.{and_parts, both_ways, leb-true, not-true, or_cases}
 use Rattle.std.specs.List.{flat_map}
 use Rattle.columns.specs.Layouts.{Layout}
 use Rattle.reports.specs.Reports.{Usage}
@@ -11,6 +11,7 @@ use Rattle.grammar.specs.Lines.{Row}
 use Rattle.readback.specs.Answers.{Tables, filled_by, roomy, year_to_dates}
 use Rattle.readback.specs.Passes.{Filling, filled_at, filled_row, new_filling, over, put_ytd}
 use Rattle.readback.proofs.Putting.{length_put, put, put_none, put_put, set_put}
+use Rattle.readback.proofs.Room.{Room, room_is}
 use Rattle.readback.proofs.Rows.{EachFits, Fits, RowsFit, read_fit, read_parts}
 
 module _ (l : Layout) where
@@ -67,34 +68,11 @@ module _ (l : Layout) where
       let long = length_put (c * 2) (u.html ∷ []) old (omega arith) in
       ap (λ ns. set ns (c * 2 + 1) u.pdf) first ∙ set_put (c * 2 + 1) u.pdf (put (c * 2) (u.html ∷ []) old) (omega arith) ∙ put_put (c * 2) (u.html ∷ []) old (omega arith) (u.pdf ∷ []) (c * 2 + 1) refl
 
-  joined_each : (rows : List Row) → flat_map (λ (r : Row). r.entry ∷ []) rows ≡ map (λ r. r.entry) rows
-  joined_each [] = refl
-  joined_each (r ∷ rs) = ap (λ es. r.entry ∷ es) (joined_each rs)
-
   year_kept : l.ytd ≡ false → (rows : List Row) (s : Filling) → (fold (filled_row l) s rows).tables.ytd ≡ s.tables.ytd
   year_kept e [] s = refl
   year_kept e (r ∷ rs) s = year_kept e rs (filled_row l s r) ∙ ap (λ b. put_ytd b s.count r.usage s.tables.ytd) e
 
-  -- what the tables have room for
-  record Room (t : Tables) : Type 0 where
-    titles : 512 ≤ length t.titles
-    numbers : 512 * column_count l ≤ length t.numbers
-    ytd : l.ytd ≡ true → 1024 ≤ length t.ytd
-
-  room_is : (t : Tables) → roomy l t ≡ true → Room t
-  room_is t h =
-      let long = leb 512 (length t.titles) in
-      let wide = leb (512 * column_count l) (length t.numbers) in
-      let years = leb 1024 (length t.ytd) in
-      let a = and_parts long (wide && (not l.ytd || years)) h in
-      let b = and_parts wide (not l.ytd || years) a.1 in
-      record {
-        titles = leb-true 512 (length t.titles) a.0;
-        numbers = leb-true (512 * column_count l) (length t.numbers) b.0;
-        ytd = λ e. ⊎_elim (λ n. absurd (both_ways l.ytd (not-true l.ytd n) e)) (leb-true 1024 (length t.ytd)) (or_cases (not l.ytd) years b.1);
-      }
-
-  module _ (rows : List Row) (t : Tables) (fit : RowsFit l 512 rows) (room : Room t) where
+  module _ (rows : List Row) (t : Tables) (fit : RowsFit l 512 rows) (room : Room l t) where
     abbrev after : Filling
     after = fold (filled_row l) (new_filling t) rows
 
@@ -103,7 +81,7 @@ module _ (l : Layout) where
         let most = fit.most in
         let long = room.titles in
         table_is 1 (λ t. t.titles) (λ r. r.entry ∷ []) (λ r f. refl) title_put rows t fit.each (omega arith)
-        ∙ (λ i. joined_each rows i ++ drop (mul-one (length rows) i) t.titles)
+        ∙ (λ i. flat_map_single (λ (r : Row). r.entry) rows i ++ drop (mul-one (length rows) i) t.titles)
 
     numbers_are : after.tables.numbers ≡ flat_map (λ r. r.usage.columns) rows ++ drop (length rows * column_count l) t.numbers
     numbers_are =

@@ -7,7 +7,7 @@ use Rattle.cells.proofs.Granted.{no_ok}
 use Rattle.grammar.specs.Files.{Reading, Top, column_count, head_of, line_of, read_file, rows_at, top_at, totals_against}
 use Rattle.grammar.specs.Lines.{Row, Shown}
 use Rattle.readback.specs.Answers.{map_both}
-use Rattle.readback.specs.Passes.{against, judged_at, no_tally, tallied}
+use Rattle.readback.specs.Passes.{Tally, against, judged_at, no_tally, over, tallied}
 use Rattle.readback.proofs.Tallies.{publisher_is, sums_are}
 
 -- whether something was read, or the fault
@@ -42,6 +42,23 @@ module _ (l : Layout) where
 
   pub judged_is : (file : List ℕ) → judged_at l file ≡ map_both (λ _. tt) (λ e. e) (read_file l file)
   judged_is file = by_top (top_at l (start file))
+
+-- the passes over the lines above the titles and over the titles' lines, one after the other
+module _ (l : Layout) (file : List ℕ) (t : Top) (q : Place) (top : Ok (t, q) ≡ top_at l (start file)) (n : ℕ) (many : n ≡ column_count l) where
+  abbrev tallies : Result Tally LineFault
+  tallies = over tallied 512 l t.shown.platform q (no_tally n)
+
+  judged_by_parts : ◌≡◌ {A = Result (Unit {0}) LineFault} (map_both (λ _. tt) (λ e. e) (read_file l file)) (and_then tallies (λ j. against l.ytd t.shown.publisher t.shown.figures j))
+  judged_by_parts =
+      sym (judged_is l file)
+      ∙ ap (λ r. and_then r (λ t. and_then (over tallied 512 l t.0.shown.platform t.1 (no_tally (column_count l))) (λ j. against l.ytd t.0.shown.publisher t.0.shown.figures j))) (sym top)
+      ∙ ap (λ k. and_then (over tallied 512 l t.shown.platform q (no_tally k)) (λ j. against l.ytd t.shown.publisher t.shown.figures j)) (sym many)
+
+  pub judged_stop : (e : LineFault) → Err e ≡ tallies → ◌≡◌ {A = Result (Unit {0}) LineFault} (Err e) (map_both (λ _. tt) (λ e. e) (read_file l file))
+  judged_stop e wrong = ap (λ r. and_then r (λ j. against l.ytd t.shown.publisher t.shown.figures j)) wrong ∙ sym judged_by_parts
+
+  pub judged_whole : (j : Tally) (r : Result (Unit {0}) LineFault) → Ok j ≡ tallies → r ≡ against l.ytd t.shown.publisher t.shown.figures j → r ≡ map_both (λ _. tt) (λ e. e) (read_file l file)
+  judged_whole j r right e = e ∙ ap (λ r. and_then r (λ j. against l.ytd t.shown.publisher t.shown.figures j)) right ∙ sym judged_by_parts
 
 granted : {A : Type 0} (r : Result A LineFault) → heard r ≡ Ok tt → (x : A) × (r ≡ Ok x)
 granted (Ok x) h = (x, refl)

@@ -1,6 +1,7 @@
 -- Sums that are kept title by title.
-use Rattle.std.proofs.Common.{◌≡◌, ℕ, zero, suc, ◌+◌, ◌<◌, ◌≤◌, ◌≢◌, List, [], ◌∷◌, ◌++◌, length, get_or, take, set, replicate, sym, refl, ap, ◌∙◌, subst, ⊎_elim, arith, length-set, get_or-set_other, get_or-set_same}
-use Rattle.std.proofs.lemmas.List.{length-take-le, take_more, take_more_set}
+use Rattle.std.proofs.Common.{◌≡◌, ℕ, zero, suc, ◌+◌, ◌*◌, ◌<◌, ◌≤◌, ◌≢◌, sum, suc-mul, List, [], ◌∷◌, ◌++◌, length, get_or, take, set, replicate, sym, refl, ap, ◌∙◌, subst, ⊎_elim, arith, length-set, get_or-set_other, get_or-set_same}
+use Rattle.std.proofs.lemmas.List.{length-take-le, take_all, take-replicate, take_more, take_more_set}
+use Rattle.std.proofs.lemmas.List.Sums.{sum_by-cons}
 use Rattle.std.proofs.lemmas.Bool.{cases_eq}
 use Rattle.readback.specs.Passes.{add_each}
 
@@ -8,14 +9,8 @@ use Rattle.readback.specs.Passes.{add_each}
 abbrev pub zeros : List ℕ
 zeros = 0 ∷ 0 ∷ 0 ∷ 0 ∷ 0 ∷ 0 ∷ 0 ∷ 0 ∷ 0 ∷ 0 ∷ 0 ∷ 0 ∷ []
 
-take_replicate : (m n x : ℕ) → n ≤ m → take n (replicate m x) ≡ replicate n x
-take_replicate zero zero x h = refl
-take_replicate zero (suc n) x h = absurd (omega arith)
-take_replicate (suc m) zero x h = refl
-take_replicate (suc m) (suc n) x h = ap (λ xs. x ∷ xs) (take_replicate m n x (omega arith))
-
 pub take_zeros : (n : ℕ) → n ≤ 12 → take n zeros ≡ replicate n 0
-take_zeros n h = take_replicate 12 n 0 h
+take_zeros n h = take-replicate n 12 0 h
 
 get_d_replicate : (m i x : ℕ) → get_or (replicate m x) i x ≡ x
 get_d_replicate zero i x = refl
@@ -62,3 +57,21 @@ module _ (cs ns new : List ℕ) (i : ℕ) (c : i < length cs) (n : i < length ns
         (λ (e : j ≡ i → ⊥). let g = get_or-set_other new i j (get_or new i 0 + get_or ns i 0) 0 e in omega (arith, g, h.low j))
         (cases_eq j i);
   }
+
+-- the sum of the first n numbers, none of which is over b
+pub sum_low : (b n : ℕ) (xs : List ℕ) → ((i : ℕ) → get_or xs i 0 ≤ b) → sum (take n xs) ≤ n * b
+sum_low b zero xs low = omega arith
+sum_low b (suc n) [] low = omega arith
+sum_low b (suc n) (x ∷ xs) low =
+    let rest = sum_low b n xs (λ i. low (suc i)) in
+    let here = low 0 in
+    let all = sum_by-cons (λ k. k) x (take n xs) in
+    let more = suc-mul n b in
+    omega arith
+
+-- once all numbers are added
+pub all_added : (cs ns new : List ℕ) (i : ℕ) → i ≡ length ns → AddedTo cs ns i new → take (length ns) new ≡ add_each (take (length ns) cs) ns
+all_added cs ns new i e h =
+    ap (λ k. take k new) (sym e)
+    ∙ h.front
+    ∙ (λ j. add_each (take (e j) cs) (take_all i ns (omega arith) j))

@@ -18,9 +18,6 @@ told_by l sound t file after r a b =
     subst (λ (x : Result Summary ReadRefusal). Told l file after x) (sym a)
     (subst (λ (x : Tables). Told l file x (answer l t file)) (sym b) (told l t file (exact l file sound)))
 
-pub faulty_number : (l : Layout) (t : Tables) → roomy l t ≡ true → ◌≡◌ {A = ℕ} 12 (cond (roomy l t) 12 11)
-faulty_number l t h = sym (ap (λ (b : Bool). cond {A = ℕ} b 12 11) h)
-
 ok_both : {A B E F : Type 0} (f : A → B) (g : E → F) (r : Result A E) → is_ok (map_both f g r) ≡ is_ok r
 ok_both f g (Ok x) = refl
 ok_both f g (Err e) = refl

@@ -1,5 +1,5 @@
 -- The turns of a loop over the titles' lines that keeps what a step makes of them.
-use Rattle.std.proofs.Common.{◌≡◌, ℕ, suc, ◌+◌, ◌-◌, ◌<◌, ◌≤◌, Bool, true, false, cond, List, [], ◌∷◌, Ok, Err, fold, Result, refl, ap, ◌∙◌, arith}
+use Rattle.std.proofs.Common.{◌≡◌, ℕ, suc, ◌+◌, ◌-◌, ◌<◌, ◌≤◌, Bool, true, false, cond, List, [], ◌∷◌, Ok, Err, fold, Result, sym, refl, ap, ◌∙◌, arith}
 use Rattle.columns.specs.Layouts.{Layout}
 use Rattle.cells.specs.declared.fault.Cause.TheVariants.{WrongText}
 use Rattle.cells.specs.declared.fault.LineFault.{LineFault}
@@ -10,6 +10,10 @@ use Rattle.grammar.specs.Files.{column_count, rows_at}
 use Rattle.grammar.specs.Lines.{Row, row_at}
 use Rattle.readback.specs.Passes.{over}
 use Rattle.readback.proofs.Numbers.{then_assoc}
+
+-- a line that was read into a row of the scheme's shape
+pub same_row : (l : Layout) (platform : List ℕ) (p : Place) (r : Result (Row × Place) LineFault) {b : Bool} {n : ℕ} → b ≡ l.ytd → n ≡ column_count l → r ≡ row_at b n platform p → row_at l.ytd (column_count l) platform p ≡ r
+same_row l platform p r shown wide e = sym (e ∙ (λ i. row_at (shown i) (wide i) platform p))
 
 module _ {S : Type 0} (f : S → Row → S) (l : Layout) (platform : List ℕ) where
   row_or_end : (b : Bool) (row : Row) (rows : Result (List Row) LineFault) (s : S) → ◌≡◌ {A = Result S LineFault} (and_then (cond b (Ok (row ∷ [])) (and_then rows (λ y. Ok (row ∷ y)))) (λ y. Ok (fold f s y))) (cond b (Ok (f s row)) (and_then rows (λ y. Ok (fold f (f s row) y))))

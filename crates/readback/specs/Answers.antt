@@ -12,6 +12,7 @@ use Rattle.cells.specs.declared.fault.LineFault.{LineFault}
 use Rattle.readback.specs.declared.answer.ReadOut.{ReadOut}
 use Rattle.readback.specs.declared.answer.ReadRefusal.{ReadRefusal}
 use Rattle.readback.specs.declared.answer.ReadRefusal.TheVariants.{ShortTables, Faulty}
+use Rattle.readback.specs.declared.tables.LentTables.{LentTables}
 use Rattle.grammar.specs.Lines.{Row}
 use Rattle.grammar.specs.Files.{Reading, column_count, read_file}
 use Rattle.grammar.specs.Sound.{SoundReport}
@@ -29,6 +30,9 @@ pub record Tables : Type 0 where
 
 abbrev pub new_tables : List Title → List ℕ → List ℕ → Tables
 new_tables titles numbers ytd = record { titles = map entry_of titles; numbers = numbers; ytd = ytd }
+
+abbrev pub held_by : LentTables → Tables
+held_by t = new_tables t.titles.now t.numbers.now t.ytd.now
 
 -- the tables have room for 512 titles; where the year to date is not shown, none is wanted for it
 abbrev pub roomy : Layout → Tables → Bool

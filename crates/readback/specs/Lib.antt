@@ -1,3 +1,5 @@
 pub mod Answers
+pub mod Lent
 pub mod Passes
+pub mod Sums
 pub mod Tops

@@ -1,25 +1,38 @@
 -- What the two passes over the titles' lines keep.
-use Rattle.std.specs.Prelude.{ℕ, ◌+◌, ◌*◌, ◌≤◌, Bool, true, false, cond, List, [], ◌∷◌, ◌++◌, length, take, drop, replicate, Ok, Err, fold, Result, ◌==◌, slice_index, slice_set}
+use Rattle.std.specs.Prelude.{ℕ, ◌+◌, ◌*◌, Bool, true, false, cond, List, [], ◌∷◌, ◌++◌, length, take, drop, replicate, Some, None, Ok, Err, fold, Option, Result, ◌==◌, slice_set}
 use Rattle.std.specs.Str.{bytes_eq}
 use Rattle.columns.specs.Layouts.{Layout}
 use Rattle.titles.specs.Titles.{entry_of}
 use Rattle.reports.specs.Answers as writing
 use Rattle.reports.specs.Reports.{Head, Usage, shown_numbers}
-use Rattle.cells.specs.declared.fault.Cause.TheVariants.{WrongSum, WrongText}
+use Rattle.cells.specs.declared.fault.Cause.TheVariants.{WrongText}
 use Rattle.cells.specs.declared.fault.LineFault.{LineFault}
 use Rattle.cells.specs.Faults.{new_fault}
 use Rattle.cells.specs.Places.{Place, and_then, start}
 use Rattle.readback.specs.declared.answer.ReadOut.{ReadOut}
-use Rattle.readback.specs.declared.judge.Judged.{Judged}
-use Rattle.readback.specs.declared.judge.Sums.{Sums}
+use Rattle.readback.specs.declared.tally.Judged.{Judged}
+use Rattle.readback.specs.declared.tally.Sums.{Sums}
 use Rattle.readback.specs.declared.line.TitleLine.{TitleLine}
+use Rattle.reports.specs.declared.counts.Formats.{Formats}
 use Rattle.grammar.specs.Lines.{Row}
 use Rattle.grammar.specs.Files.{column_count, head_of, rows_at, sums_against, top_at}
 use Rattle.readback.specs.Answers.{Tables}
 
+-- a title's numbers; a year to date that is not shown counts as 0
+abbrev pub html_of : Option (Formats ℕ) → ℕ
+html_of (Some y) = y.html
+html_of None = 0
+
+abbrev pub pdf_of : Option (Formats ℕ) → ℕ
+pdf_of (Some y) = y.pdf
+pdf_of None = 0
+
+abbrev pub usage_with : List ℕ → Option (Formats ℕ) → Usage
+usage_with columns y = record { columns = columns; html = html_of y; pdf = pdf_of y }
+
 -- a title's line that was read, with the numbers of its columns
 abbrev pub row_with : List ℕ → TitleLine → Row
-row_with columns t = record { entry = entry_of t.title; usage = record { columns = columns; html = t.html; pdf = t.pdf } }
+row_with columns t = record { entry = entry_of t.title; usage = usage_with columns t.year }
 
 -- what f makes of the titles' lines, one after another
 abbrev pub over : {S : Type 0} → (S → Row → S) → ℕ → Layout → List ℕ → Place → S → Result S LineFault
@@ -61,15 +74,6 @@ tallied t r = record {
 abbrev pub no_tally : ℕ → Tally
 no_tally n = record { titles = 0; sums = record { columns = replicate n 0; html = 0; pdf = 0 }; publisher = [] }
 
--- no sum is over b
-pub record Low (b : ℕ) (s : Sums) : Type 0 where
-  pub columns : (i : ℕ) → slice_index s.columns i ≤ b
-  pub html : s.html ≤ b
-  pub pdf : s.pdf ≤ b
-
-abbrev pub checked_sum : ℕ → ℕ → ℕ → Result (Unit {0}) LineFault
-checked_sum shown sum column = cond (shown == sum) (Ok tt) (Err (new_fault 6 column WrongSum))
-
 -- line 6 against a tally: first the publisher, then the sums from the left
 abbrev pub against : Bool → List ℕ → List ℕ → Tally → Result (Unit {0}) LineFault
 against ytd publisher figures t =
@@ -92,12 +96,14 @@ new_filling t = record { count = 0; tables = t }
 abbrev pub put_at : ℕ → List ℕ → List ℕ → List ℕ
 put_at at xs old = take at old ++ (xs ++ drop (at + length xs) old)
 
-abbrev pub year_of : TitleLine → Usage
-year_of t = record { columns = []; html = t.html; pdf = t.pdf }
-
 abbrev pub put_ytd : Bool → ℕ → Usage → List ℕ → List ℕ
 put_ytd true t u old = slice_set (slice_set old (t * 2) u.html) (t * 2 + 1) u.pdf
 put_ytd false t u old = old
+
+-- the same by what a title's line says of its year to date
+abbrev pub put_year : Option (Formats ℕ) → ℕ → List ℕ → List ℕ
+put_year (Some y) t old = slice_set (slice_set old (t * 2) y.html) (t * 2 + 1) y.pdf
+put_year None t old = old
 
 abbrev pub filled_row : Layout → Filling → Row → Filling
 filled_row l s r = record {

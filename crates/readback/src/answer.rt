@@ -4,16 +4,18 @@ ghost use Rattle.readback.specs.declared.answer.ReadRefusal.TheVariants.{Faulty}
 
 use cells::LineFault;
 use reports::Header;
+use std::error::Error;
+use std::fmt;
 
 /// A report that was read: what stands above its table, and how many titles it has.
-#[derive(Clone, Copy)]
+#[derive(Clone, Copy, Debug, PartialEq, Eq)]
 pub struct ReadOut<'a> {
     pub header: Header<'a>,
     pub titles: usize,
 }
 
 /// Why a file was not read.
-#[derive(Clone, Copy)]
+#[derive(Clone, Copy, Debug, PartialEq, Eq)]
 pub enum ReadRefusal {
     /// A table is too short for 512 titles. This bears the number 11.
     ShortTables,
@@ -28,3 +30,14 @@ impl From<LineFault> for ReadRefusal {
         ReadRefusal::Faulty(fault)
     }
 }
+
+impl fmt::Display for ReadRefusal {
+    fn fmt<W: fmt::Write>(&self, f: &mut fmt::Formatter<W>) -> fmt::Result {
+        match self {
+            ReadRefusal::ShortTables => write!(f, "the tables are too short"),
+            ReadRefusal::Faulty(fault) => write!(f, "{fault}"),
+        }
+    }
+}
+
+impl Error for ReadRefusal {}

@@ -1,95 +1,21 @@
 //! The first pass: the file is judged whole, and nothing is written.
-ghost use Rattle.std.specs.Prelude.{◌≡◌, ℕ, ◌+◌, ◌*◌, ◌^◌, ◌<◌, ◌≤◌, length, IfOk};
-ghost use Rattle.reports.specs.Reports.{shown_numbers};
+ghost use Rattle.std.specs.Prelude.{◌≡◌, Bool, ◌<◌, ◌≤◌, ◌==◌, length, not, IfSome};
+ghost use Rattle.std.specs.List.{position, zip};
 ghost use Rattle.cells.specs.Cells.{place_of};
+ghost use Rattle.cells.specs.Faults.{new_fault};
 ghost use Rattle.grammar.specs.Files.{column_count, read_file, sums_against};
 ghost use Rattle.grammar.specs.Lines.{figure_count};
 ghost use Rattle.readback.specs.Answers.{map_both};
-ghost use Rattle.readback.specs.Passes.{Low, against, added, checked_sum, judged_at, no_tally, over, row_with, still_shared, sums_of, tallied, tally_of};
+ghost use Rattle.readback.specs.Passes.{against, no_tally, over, tallied, tally_of};
 
-use crate::line::{TitleLine, read_title};
+use crate::line::read_title;
+use crate::tally::Judged;
 use crate::top::{TotalLabel, figure_count, read_top};
 use cells::{Cause, CellReader, LineFault};
 use columns::ColumnScheme;
 
 /// The most titles that a report has.
 pub(crate) const MOST_TITLES: usize = 512;
-
-/// The sums over all titles.
-#[derive(Clone, Copy)]
-pub(crate) struct Sums {
-    columns: [u64; 12],
-    html: u64,
-    pdf: u64,
-}
-
-/// What is kept of the titles' lines: how many there are, their sums, and the publisher that all share, else blank.
-#[derive(Clone, Copy)]
-pub(crate) struct Judged<'a> {
-    titles: usize,
-    sums: Sums,
-    publisher: &'a [u8],
-}
-
-impl Sums {
-    /// Adds the numbers of a title.
-    fn add(&mut self, numbers: &[u32], html: u32, pdf: u32)
-        requires few { length numbers.now ≤ 12 }
-        requires low { Low (2 ^ 62) self.old }
-        ensures added { sums_of (length numbers.now) self.new ≡ added (sums_of (length numbers.now) self.old) (record { columns = numbers.now; html = html; pdf = pdf }) }
-        ensures low { (b : ℕ) → Low b self.old → Low (b + 2 ^ 32) self.new }
-    {
-        for (column, number) in numbers.iter().enumerate() {
-            self.columns[column] += u64::from(*number);
-        }
-        self.html += u64::from(html);
-        self.pdf += u64::from(pdf);
-    }
-}
-
-impl<'a> Judged<'a> {
-    /// Before the first title.
-    fn none() -> Judged<'a>
-        ensures tally { (n : ℕ) → n ≤ 12 → tally_of n result ≡ no_tally n }
-        ensures low { Low 0 result.sums }
-    {
-        Judged {
-            titles: 0,
-            sums: Sums {
-                columns: [0; 12],
-                html: 0,
-                pdf: 0,
-            },
-            publisher: b"",
-        }
-    }
-
-    /// The publisher that all titles share once this one is among them, else blank.
-    fn publisher_with(&self, next: &'a [u8]) -> &'a [u8]
-        ensures { result.now ≡ still_shared self.now.titles self.now.publisher.now next.now }
-    {
-        if self.titles == 0 {
-            next
-        } else if self.publisher == next {
-            self.publisher
-        } else {
-            b""
-        }
-    }
-
-    /// One title more.
-    fn note(&mut self, line: &TitleLine<'a>, numbers: &[u32])
-        requires few { length numbers.now ≤ 12 }
-        requires titles { self.old.titles < 512 }
-        requires low { Low (2 ^ 62) self.old.sums }
-        ensures tally { tally_of (length numbers.now) self.new ≡ tallied (tally_of (length numbers.now) self.old) (row_with numbers.now line.now) }
-        ensures low { (b : ℕ) → Low b self.old.sums → Low (b + 2 ^ 32) self.new.sums }
-    {
-        self.publisher = self.publisher_with(line.title.publisher);
-        self.sums.add(numbers, line.html, line.pdf);
-        self.titles += 1;
-    }
-}
 
 /// Judges the titles' lines to the end of the file. There is room for the numbers of one in the row.
 fn judge_titles<'a, S: ColumnScheme>(
@@ -99,102 +25,68 @@ fn judge_titles<'a, S: ColumnScheme>(
     row: &mut [u32],
 ) -> Result<Judged<'a>, LineFault>
     requires { length row.old ≡ column_count (S.ColumnScheme.layout scheme.now) }
-    ensures tally { map_both (tally_of (length row.old)) (λ e. e) result ≡ over tallied 512 (S.ColumnScheme.layout scheme.now) platform.now (place_of cells.old) (no_tally (length row.old)) }
-    ensures low { IfOk result (λ j. Low (2 ^ 41) j.sums) }
+    ensures { map_both (tally_of (length row.old)) (λ e. e) result ≡ over tallied 512 (S.ColumnScheme.layout scheme.now) platform.now (place_of cells.old) (no_tally (length row.old)) }
 {
     let ytd = scheme.has_ytd();
     let mut judged = Judged::none();
-    loop {
-        if judged.titles == MOST_TITLES {
-            return Err(cells.fault(Cause::WrongText));
-        }
+    for _ in 0..MOST_TITLES {
         let line = read_title(cells, platform, row, ytd)?;
         judged.note(&line, row);
         if cells.is_done() {
             return Ok(judged);
         }
     }
+    Err(cells.fault(Cause::WrongText))
 }
 
-/// Judges a number of line 6.
-fn check_sum(shown: u32, sum: u64, column: usize) -> Result<(), LineFault>
-    ensures { result ≡ checked_sum shown sum column }
+/// A fault in line 6.
+fn totals_fault(column: usize, cause: Cause) -> LineFault
+    ensures { result ≡ new_fault 6 column cause }
 {
-    if u64::from(shown) != sum {
-        return Err(LineFault {
-            line: 6,
-            column,
-            cause: Cause::WrongSum,
-        });
+    LineFault {
+        line: 6,
+        column,
+        cause,
     }
-    Ok(())
+}
+
+/// The place of the first number that is not the sum that it should be.
+fn first_wrong(figures: &[u32], sums: &[u64]) -> Option<usize>
+    ensures first { result ≡ position (λ p. not (p.0 == p.1)) (zip figures.now sums.now) }
+    ensures below { IfSome result (λ place. place < length sums.now) }
+{
+    figures
+        .iter()
+        .zip(sums.iter())
+        .position(|(shown, sum)| u64::from(*shown) != *sum)
 }
 
 /// Judges the numbers of line 6 from the left.
-fn check_figures(figures: &[u32], sums: &Sums, columns: usize, ytd: bool) -> Result<(), LineFault>
-    requires few { columns ≤ 12 }
-    requires figures { length figures.now ≡ figure_count ytd columns }
-    requires low { Low (2 ^ 41) sums.now }
-    ensures { result ≡ sums_against 6 figures.now (shown_numbers ytd (sums_of columns sums.now)) }
+fn check_figures(figures: &[u32], sums: &[u64]) -> Result<(), LineFault>
+    requires { length sums.now ≤ 15 }
+    ensures { result ≡ sums_against 6 figures.now sums.now }
 {
-    let mut total = 0;
-    for column in 0..columns {
-        check_sum(figures[column], sums.columns[column], 6 + column)?;
-        total += sums.columns[column];
+    match first_wrong(figures, sums) {
+        Some(place) => Err(totals_fault(6 + place, Cause::WrongSum)),
+        None => Ok(()),
     }
-    if !ytd {
-        return Ok(());
-    }
-    check_sum(figures[columns], total, 6 + columns)?;
-    check_sum(figures[columns + 1], sums.html, 7 + columns)?;
-    check_sum(figures[columns + 2], sums.pdf, 8 + columns)
 }
 
-/// Judges the publisher and the numbers of line 6 by what the titles' lines come to.
+/// Judges the publisher and the numbers of line 6 by what the titles' lines come to, under so many columns.
 fn check_totals(
     label: &TotalLabel<'_>,
     figures: &[u32],
     judged: &Judged<'_>,
     columns: usize,
-    ytd: bool,
 ) -> Result<(), LineFault>
-    requires few { columns ≤ 12 }
-    requires figures { length figures.now ≡ figure_count ytd columns }
-    requires low { Low (2 ^ 41) judged.now.sums }
-    ensures { result ≡ against ytd label.now.publisher.now figures.now (tally_of columns judged.now) }
+    requires { columns ≤ 12 }
+    ensures { (ytd : Bool) → length figures.now ≡ figure_count ytd columns → result ≡ against ytd label.now.publisher.now figures.now (tally_of columns judged.now) }
 {
-    if label.publisher == judged.publisher {
-        check_figures(figures, &judged.sums, columns, ytd)
-    } else {
-        Err(LineFault {
-            line: 6,
-            column: 2,
-            cause: Cause::WrongText,
-        })
+    if label.publisher != judged.publisher {
+        return Err(totals_fault(2, Cause::WrongText));
     }
-}
-
-/// Judges the whole file, with room for the numbers of line 6 and for those of a title.
-fn judge_with<S: ColumnScheme>(
-    scheme: &S,
-    file: &[u8],
-    figures: &mut [u32],
-    row: &mut [u32],
-) -> Result<(), LineFault>
-    requires figures { length figures.old ≡ figure_count (S.ColumnScheme.layout scheme.now).ytd (column_count (S.ColumnScheme.layout scheme.now)) }
-    requires row { length row.old ≡ column_count (S.ColumnScheme.layout scheme.now) }
-    ensures { result ≡ judged_at (S.ColumnScheme.layout scheme.now) file.now }
-{
-    let mut cells = CellReader::new(file);
-    let top = read_top(&mut cells, scheme, figures)?;
-    let judged = judge_titles(&mut cells, scheme, top.label.platform, row)?;
-    check_totals(
-        &top.label,
-        figures,
-        &judged,
-        scheme.columns(),
-        scheme.has_ytd(),
-    )
+    let sums = judged.sums.shown(columns);
+    check_figures(figures, &sums)
 }
 
 /// Judges the whole file.
@@ -202,8 +94,12 @@ pub(crate) fn judge_file<S: ColumnScheme>(scheme: &S, file: &[u8]) -> Result<(),
     ensures { result ≡ map_both (λ _. tt) (λ e. e) (read_file (S.ColumnScheme.layout scheme.now) file.now) }
 {
     let columns = scheme.columns();
-    let count = figure_count(scheme);
     let mut figures = [0u32; 15];
+    let figures = &mut figures[..figure_count(scheme)];
     let mut row = [0u32; 12];
-    judge_with(scheme, file, &mut figures[0..count], &mut row[0..columns])
+    let row = &mut row[..columns];
+    let mut cells = CellReader::new(file);
+    let top = read_top(&mut cells, scheme, figures)?;
+    let judged = judge_titles(&mut cells, scheme, top.label.platform, row)?;
+    check_totals(&top.label, figures, &judged, columns)
 }

@@ -6,7 +6,10 @@ mod fill;
 mod judge;
 mod line;
 mod reading;
+mod tables;
+mod tally;
 mod top;
 
 pub use answer::{ReadOut, ReadRefusal};
 pub use reading::read;
+pub use tables::LentTables;

@@ -1,5 +1,5 @@
 //! The lines of the titles.
-ghost use Rattle.std.specs.Prelude.{◌≡◌, ◌*◌, ◌≤◌, length, sum};
+ghost use Rattle.std.specs.Prelude.{◌≡◌, ◌^◌, ◌≤◌, length, sum, is_some, IfOk};
 ghost use Rattle.titles.specs.Titles.{entry_of};
 ghost use Rattle.cells.specs.Cells.{place_of};
 ghost use Rattle.cells.specs.Places.{seen};
@@ -7,21 +7,14 @@ ghost use Rattle.grammar.specs.Lines.{entry_at, names_at, numbers_at, row_at, ye
 ghost use Rattle.readback.specs.Passes.{row_with};
 
 use cells::{CellReader, LineFault, issn_cell, number_cell, sum_cell, text_cell, word_cell};
+use reports::Formats;
 use titles::Title;
 
-/// What a title's line says besides the numbers of its columns. Where the year to date is not shown, its sums are 0.
+/// What a title's line says besides the numbers of its columns, with the year to date where it is shown.
 #[derive(Clone, Copy)]
 pub(crate) struct TitleLine<'a> {
     pub title: Title<'a>,
-    pub html: u32,
-    pub pdf: u32,
-}
-
-/// A title's requests in the year to date, by format.
-#[derive(Clone, Copy)]
-struct YearToDate {
-    html: u32,
-    pdf: u32,
+    pub year: Option<Formats<u32>>,
 }
 
 /// Reads a number into each place of the row. The line ends with the last of them where `ends` says so.
@@ -33,32 +26,28 @@ pub(crate) fn read_numbers(
     ensures { seen (λ _. row.new) result (place_of cells.new) ≡ numbers_at ends (length row.old) (place_of cells.old) }
 {
     let count = row.len();
-    for i in 0..count {
-        row[i] = number_cell(cells, ends && i + 1 == count)?;
+    for (i, number) in row.iter_mut().enumerate() {
+        *number = number_cell(cells, ends && i + 1 == count)?;
     }
     Ok(())
 }
 
 /// The sum of a row of numbers.
-fn sum_of(row: &[u32]) -> u64
-    requires { length row.now ≤ 12 }
-    ensures { result ≡ sum row.now }
+fn sum_of(numbers: &[u32]) -> u64
+    requires { length numbers.now ≤ 12 }
+    ensures { result ≡ sum numbers.now }
 {
-    let mut total = 0u64;
-    for number in row {
-        total += u64::from(*number);
-    }
-    total
+    numbers.iter().map(|number| u64::from(*number)).sum()
 }
 
 /// Reads the year to date, whose total is the sum of the columns.
-fn read_year_to_date(cells: &mut CellReader<'_>, total: u64) -> Result<YearToDate, LineFault>
+fn read_year_to_date(cells: &mut CellReader<'_>, total: u64) -> Result<Formats<u32>, LineFault>
     ensures { seen (λ y. (y.html, y.pdf)) result (place_of cells.new) ≡ year_to_date_at total (place_of cells.old) }
 {
     sum_cell(cells, 0, total, false)?;
     let html = number_cell(cells, false)?;
     let pdf = sum_cell(cells, html, total, true)?;
-    Ok(YearToDate { html, pdf })
+    Ok(Formats { html, pdf })
 }
 
 /// A title's name and publisher.
@@ -101,21 +90,15 @@ pub(crate) fn read_title<'a>(
     ytd: bool,
 ) -> Result<TitleLine<'a>, LineFault>
     requires { length row.old ≤ 12 }
-    ensures { seen (row_with row.new) result (place_of cells.new) ≡ row_at ytd (length row.old) platform.now (place_of cells.old) }
+    ensures row { seen (row_with row.new) result (place_of cells.new) ≡ row_at ytd (length row.old) platform.now (place_of cells.old) }
+    ensures year { IfOk result (λ t. is_some t.year ≡ ytd) }
 {
     let title = read_entry(cells, platform)?;
     read_numbers(cells, row, !ytd)?;
-    if !ytd {
-        return Ok(TitleLine {
-            title,
-            html: 0,
-            pdf: 0,
-        });
-    }
-    let year = read_year_to_date(cells, sum_of(row))?;
-    Ok(TitleLine {
-        title,
-        html: year.html,
-        pdf: year.pdf,
-    })
+    let year = if ytd {
+        Some(read_year_to_date(cells, sum_of(row))?)
+    } else {
+        None
+    };
+    Ok(TitleLine { title, year })
 }

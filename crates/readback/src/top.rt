@@ -101,6 +101,7 @@ fn read_headings<S: ColumnScheme>(
     ensures { and_then (seen (λ x. x) result (place_of cells.new)) (λ x. words_at (ytd_headings ytd) x.1) ≡ words_at ((S.ColumnScheme.layout scheme.now).headings ++ ytd_headings ytd) (place_of cells.old) }
 {
     let columns = scheme.columns();
+    // By number: a scheme gives its headings one by one, by their columns.
     for column in 0..columns {
         read_heading(cells, scheme, column, !ytd && column + 1 == columns)?;
     }

@@ -1,3 +1,4 @@
+pub mod Items
 pub mod Readers
 pub mod Requests
 pub mod Sources

@@ -8,5 +8,5 @@ mod source;
 
 pub use item::{Cause, Damage, Item};
 pub use reader::{AddressRule, BestRule, ReaderRule};
-pub use request::Request;
+pub use request::{HTML, LAST_SECOND, PDF, Request};
 pub use source::{RequestTable, Source};

@@ -1,3 +1,2 @@
-pub mod Drawing
 pub mod Entering
 pub mod Unlent

@@ -1,7 +1,7 @@
 -- What a whole run promises. `at` says what the terms of a ledger fix; the tables, the items that the source has still to
 -- come and the entries are named as they were before the run, and with a prime as they are after it.
 use Rattle.std.specs.Prelude.{◌≡◌, ℕ, true, List, ◌∷◌, ◌++◌, length, is_ok, Ok, Err, Result}
-use Rattle.records.specs.declared.item.Item.{Item}
+use Rattle.records.specs.Items.{Item}
 use Rattle.records.specs.declared.request.Request.{Request}
 use Rattle.runs.specs.Rules.{Setup}
 use Rattle.runs.specs.Past.{granted, Past, settling}
@@ -28,8 +28,8 @@ pub record Leads {R S : Type 0} (at : Terms R S → Setup) (old new : Open R S) 
 -- settled ledger stands; a refused opening leaves everything as it was
 abbrev pub Led : {R S : Type 0} → (Terms R S → Setup) → R → S → ℕ → ℕ → List Request → List ℕ → List Request → List ℕ → List Item → List Item → List Entry → List Entry → Result (Settled R S) (Unopened R S) → Type 0
 Led at rule scheme titles limit waiting cells waiting' cells' xs xs' entries entries' (Ok s) =
-    (s.terms.rule ≡ rule) × (s.terms.scheme ≡ scheme) × (s.terms.titles ≡ titles) × (s.terms.limit ≡ limit) × (s.terms.slots ≡ length waiting)
-    × ((p : Past) × Told xs entries' p xs' × Stands (at s.terms) (settling true granted ∷ p) (settled_books_of s waiting' cells'))
+    (s.last.terms.rule ≡ rule) × (s.last.terms.scheme ≡ scheme) × (s.last.terms.titles ≡ titles) × (s.last.terms.limit ≡ limit) × (s.last.terms.slots ≡ length waiting)
+    × ((p : Past) × Told xs entries' p xs' × Stands (at s.last.terms) (settling true granted ∷ p) (settled_books_of s waiting' cells'))
 Led at rule scheme titles limit waiting cells waiting' cells' xs xs' entries entries' (Err e) =
     (e.rule ≡ rule) × (e.scheme ≡ scheme) × (number e.refusal ≡ 9)
     × (waiting' ≡ waiting) × (cells' ≡ cells) × (xs' ≡ xs) × (entries' ≡ entries)

@@ -3,7 +3,6 @@
 
 mod row;
 mod runner;
-mod steps;
 
 pub use row::{Entry, Reply, Step};
 pub use runner::{lead, run};

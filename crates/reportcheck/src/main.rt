@@ -4,10 +4,8 @@
 
 mod samples;
 
-use anyhow::anyhow;
-use cells::{Cause, LineFault};
 use columns::{ColumnScheme, MonthScheme, YearScheme};
-use readback::{ReadRefusal, read};
+use readback::{LentTables, read};
 use samples::{
     BY_MONTH, BY_YEAR, Damage, MONTH_DAMAGES, ONE_PUBLISHER, YEAR_DAMAGES, damaged, repeated, whole,
 };
@@ -15,25 +13,8 @@ use std::alloc::Global;
 use std::str::from_utf8;
 use titles::Title;
 
-const NO_TITLE: Title<'static> = Title {
-    name: b"",
-    publisher: b"",
-    print: None,
-    online: None,
-};
-
 /// The most titles of a report.
 const MOST: usize = 512;
-
-fn words(cause: Cause) -> &'static str {
-    match cause {
-        Cause::WrongText => "wrong text",
-        Cause::WrongNumber => "wrong number",
-        Cause::WrongSum => "wrong sum",
-        Cause::WrongCellCount => "wrong cell count",
-        Cause::EndOfFile => "end of file",
-    }
-}
 
 fn print_text(rt: &HostRuntime, bytes: &[u8]) -> anyhow::Result<()> {
     match from_utf8(bytes) {
@@ -43,29 +24,10 @@ fn print_text(rt: &HostRuntime, bytes: &[u8]) -> anyhow::Result<()> {
     Ok(())
 }
 
-fn print_fault(rt: &HostRuntime, fault: LineFault) -> anyhow::Result<()> {
-    let LineFault {
-        line,
-        column,
-        cause,
-    } = fault;
-    let words = words(cause);
-    println!(rt; "line {line}, column {column}, {words}")?;
-    Ok(())
-}
-
 /// The part of a table that belongs to a title, where each has so many entries.
 fn part_of(table: &[u32], width: usize, title: usize) -> &[u32] {
-    let Some(start) = title.checked_mul(width) else {
-        return &[];
-    };
-    let Some(end) = start.checked_add(width) else {
-        return &[];
-    };
-    match table.get(start..end) {
-        Some(part) => part,
-        None => &[],
-    }
+    let start = title.saturating_mul(width);
+    table.get(start..start.saturating_add(width)).unwrap_or(&[])
 }
 
 /// Prints a title, the numbers of its columns, and its year to date, if there is one.
@@ -98,27 +60,29 @@ fn print_reading<S: ColumnScheme>(
     few: usize,
 ) -> anyhow::Result<()> {
     let columns = scheme.columns();
-    let mut titles = vec![in heap; NO_TITLE; MOST]?;
+    let mut titles = vec![in heap; Title::default(); MOST]?;
     let mut numbers = vec![in heap; 0u32; columns.saturating_mul(MOST)]?;
     let mut ytd = vec![in heap; 0u32; MOST * 2]?;
     let width = if scheme.has_ytd() { 2 } else { 0 };
-    match read(scheme, file, &mut titles, &mut numbers, &mut ytd) {
+    let mut tables = LentTables {
+        titles: &mut titles,
+        numbers: &mut numbers,
+        ytd: &mut ytd,
+    };
+    match read(scheme, file, &mut tables) {
         Ok(out) => {
             let count = out.titles;
             println!(rt; "read, titles: {count}")?;
-            for t in 0..count.min(few) {
-                if let Some(title) = titles.get(t) {
-                    print_title(
-                        rt,
-                        title,
-                        part_of(&numbers, columns, t),
-                        part_of(&ytd, width, t),
-                    )?;
-                }
+            for (t, title) in titles.iter().take(count.min(few)).enumerate() {
+                print_title(
+                    rt,
+                    title,
+                    part_of(&numbers, columns, t),
+                    part_of(&ytd, width, t),
+                )?;
             }
         }
-        Err(ReadRefusal::Faulty(fault)) => print_fault(rt, fault)?,
-        Err(ReadRefusal::ShortTables) => println!(rt; "the tables are too short")?,
+        Err(refusal) => println!(rt; "{refusal}")?,
     }
     Ok(())
 }
@@ -142,12 +106,8 @@ fn print_damages<S: ColumnScheme>(
 
 fn main(rt: HostRuntime) -> anyhow::Result<()> {
     let heap = rt.alloc();
-    let Ok(months) = MonthScheme::new(2009, 2) else {
-        return Err(anyhow!("the months are wrong"));
-    };
-    let Ok(years) = YearScheme::new(2009, 2005) else {
-        return Err(anyhow!("the years are wrong"));
-    };
+    let months = MonthScheme::new(2009, 2)?;
+    let years = YearScheme::new(2009, 2005)?;
     print!(rt; "by month: ")?;
     print_reading(&rt, heap, &months, &whole(heap, &BY_MONTH)?, 2)?;
     print!(rt; "one publisher: ")?;

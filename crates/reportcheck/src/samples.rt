@@ -280,8 +280,8 @@ pub(crate) fn damaged(
 /// A report by year of so many titles, none of which was read.
 pub(crate) fn repeated(heap: Global, titles: usize) -> Result<Vec<u8>, AllocError> {
     let mut file = Vec::new(heap);
-    for i in 0..5 {
-        file.extend_from_slice(BY_YEAR[i])?;
+    for line in &BY_YEAR[..5] {
+        file.extend_from_slice(line)?;
     }
     file.extend_from_slice(b"Total for all journals,Kiln Press,Host,,,0,0,0,0,0,0\r\n")?;
     for _ in 0..titles {

@@ -53,3 +53,8 @@ module _ (cells : List ℕ) (n : ℕ) where
   line_is ytd platform titles i d u h is =
       let long = length-map titles entry_of in
       ap (λ v. title_line ytd platform (line_with (entry_of (get_or titles i d)) v)) is ∙ sym (ap (title_line ytd platform) (line_at 0 (map entry_of titles) i i (line_of cells n i (entry_of d)) (entry_of d) (omega arith) (omega arith) ∙ ap (line_of cells n i) (get_or-map entry_of titles i d (entry_of d) h)))
+
+-- the numbers of all titles, column by column, are those of the line for all journals
+pub summed : (cells : List ℕ) (n : ℕ) (titles : List Title) → usage_by (html_sum cells n (length titles)) (pdf_sum cells n (length titles)) n ≡ totals n (lines_from cells n 0 (map entry_of titles))
+summed cells n titles =
+    sym (totals_are cells n (map entry_of titles) ∙ ap (λ m. usage_by (html_sum cells n m) (pdf_sum cells n m) n) (length-map titles entry_of))

@@ -1,9 +1,9 @@
 -- Sums over a row, and over the numbers from 0 on; the front of a row.
-use Rattle.std.proofs.Common.{◌≡◌, ℕ, ◌+◌, ◌<◌, ◌≤◌, List, [], ◌∷◌, ◌++◌, map, length, take, sum_by, sym, refl, ap, ◌∙◌, subst, arith}
-use native.Mathlib.Nat.{min-le_left}
+use Rattle.std.proofs.Common.{◌≡◌, ℕ, ◌+◌, ◌<◌, List, [], ◌∷◌, ◌++◌, map, sum_by, sym, refl, ap, ◌∙◌, arith}
 use Rattle.std.specs.List.{range_with_len}
+use Rattle.std.proofs.lemmas.Grind.{common_steps}
 use Rattle.std.proofs.lemmas.List.FromFn.{get_or-map-range_with_len, length-map-range_with_len, map-range_with_len_more}
-use Rattle.std.proofs.lemmas.List.{length-take, map-id, same_lists}
+use Rattle.std.proofs.lemmas.List.{map-id, same_lists}
 use Rattle.std.proofs.lemmas.List.Sums.{sum_by-cons, sum_by_push}
 
 counting_more : (n : ℕ) → range_with_len 0 (n + 1) ≡ range_with_len 0 n ++ n ∷ []
@@ -15,28 +15,11 @@ sum_by_counting_more f n = ap (sum_by f) (counting_more n) ∙ sum_by_push f (ra
 
 pub sum_by_plus : {X : Type 0} (f g : X → ℕ) (xs : List X) → sum_by (λ x. f x + g x) xs ≡ sum_by f xs + sum_by g xs
 sum_by_plus f g [] = refl
-sum_by_plus f g (x ∷ xs) =
-    let e = sum_by-cons (λ y. f y + g y) x xs in
-    let a = sum_by-cons f x xs in
-    let b = sum_by-cons g x xs in
-    let h = sum_by_plus f g xs in
-    omega arith
-
-pub take_short : {X : Type 0} (n : ℕ) (xs : List X) → length (take n xs) ≤ n
-take_short n xs = subst (λ k. k ≤ n) (sym (length-take n xs)) (min-le_left n (length xs))
-
-pub sum_by_le_each : {X : Type 0} (f g : X → ℕ) (h : (x : X) → f x ≤ g x) (xs : List X) → sum_by f xs ≤ sum_by g xs
-sum_by_le_each f g h [] = omega arith
-sum_by_le_each f g h (x ∷ xs) =
-    let a = sum_by-cons f x xs in
-    let b = sum_by-cons g x xs in
-    let here = h x in
-    let there = sum_by_le_each f g h xs in
-    omega arith
+sum_by_plus f g (x ∷ xs) = grind (arith, common_steps, sum_by-cons, sum_by_plus f g xs)
 
 sum_by_zero : {X : Type 0} (xs : List X) → sum_by (λ x. 0) xs ≡ 0
 sum_by_zero [] = refl
-sum_by_zero (x ∷ xs) = let e = sum_by-cons (λ y. 0) x xs in let h = sum_by_zero xs in omega arith
+sum_by_zero (x ∷ xs) = grind (arith, common_steps, sum_by-cons, sum_by_zero xs)
 
 -- the sum of a table by rows is its sum by columns
 pub sum_by_swap : {X Y : Type 0} (f : X → Y → ℕ) (xs : List X) (ys : List Y) → sum_by (λ x. sum_by (f x) ys) xs ≡ sum_by (λ y. sum_by (λ x. f x y) xs) ys

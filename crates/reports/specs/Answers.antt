@@ -46,8 +46,8 @@ head_of h = record {
 
 abbrev pub subject_of : {R S : Type 0} → (S → Layout) → Settled R S → List ℕ → List TitleOfList → Header → Subject
 subject_of layout ledger cells titles header = record {
-  layout = layout ledger.terms.scheme;
-  titles = ledger.terms.titles;
+  layout = layout ledger.last.terms.scheme;
+  titles = ledger.last.terms.titles;
   cells = cells;
   entries = map entry_of titles;
   head = head_of header;

@@ -30,9 +30,12 @@ pub(crate) fn check_header(header: &Header<'_>) -> Result<(), WriteRefusal>
 pub(crate) fn check_titles(titles: &[Title<'_>]) -> Result<(), WriteRefusal>
     ensures { result_err result ≡ titles_ground 0 (map entry_of titles.now) }
 {
-    for title in 0..titles.len() {
-        if let Err(fault) = titles[title].check() {
-            return Err(WriteRefusal::Title { title, fault });
+    for (index, title) in titles.iter().enumerate() {
+        if let Err(fault) = title.check() {
+            return Err(WriteRefusal::Title {
+                title: index,
+                fault,
+            });
         }
     }
     Ok(())

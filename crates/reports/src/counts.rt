@@ -1,159 +1,110 @@
-//! The numbers that a line shows, summed from the count table.
-ghost use Rattle.std.specs.Prelude.{◌≡◌, ◌+◌, ◌*◌, ◌^◌, ◌<◌, ◌≤◌, length, take, slice_set};
-ghost use Rattle.std.specs.List.{list_all};
-ghost use Rattle.reports.specs.Counting.{Balanced, html_sum, pdf_sum, usage_of};
-ghost use Rattle.reports.specs.Reports.{is_low, shown_numbers};
-ghost use Rattle.reports.specs.Tables.{html_at, pdf_at, usage_by};
-
-use columns::ColumnScheme;
-use titles::Title;
+//! The numbers that a line shows.
+ghost use Rattle.std.specs.Prelude.{◌≡◌, ◌+◌, ◌*◌, ◌^◌, ◌≤◌, take, sum};
 
 /// The highest number that may be shown.
 const HIGHEST: u64 = 1_000_000_000;
 
-/// How many columns the lines have, and whether the year-to-date columns follow.
-#[derive(Clone, Copy)]
-pub(crate) struct Shape {
-    pub columns: usize,
-    pub ytd: bool,
-}
-
-impl Shape {
-    /// That of the lines under a scheme.
-    pub fn of<S: ColumnScheme>(scheme: &S) -> Shape
-        ensures shape { result ≡ record { columns = length (S.ColumnScheme.layout scheme.now).headings; ytd = (S.ColumnScheme.layout scheme.now).ytd } }
-        ensures few { result.columns ≤ 12 }
-    {
-        Shape {
-            columns: scheme.columns(),
-            ytd: scheme.has_ytd(),
-        }
-    }
-}
-
-/// Requests by format.
-#[derive(Clone, Copy)]
-pub(crate) struct Formats {
-    pub html: u64,
-    pub pdf: u64,
+/// A number to each format.
+#[derive(Clone, Copy, Debug, PartialEq, Eq)]
+pub struct Formats<T> {
+    pub html: T,
+    pub pdf: T,
 }
 
 /// The numbers of a line: one to each column, and the sums of each format over all columns.
+///
+/// The columns stand in an array with their number beside it: there are at most 12, and no heap.
 #[derive(Clone, Copy)]
 pub(crate) struct Counts {
-    pub numbers: [u64; 12],
-    pub html: u64,
-    pub pdf: u64,
+    numbers: [u64; 12],
+    columns: usize,
+    sums: Formats<u64>,
+    ghost few: { columns ≤ 12 },
+    ghost low_html: { sums.html ≤ columns * 2 ^ 41 },
+    ghost low_pdf: { sums.pdf ≤ columns * 2 ^ 41 },
+    ghost balanced: { sums.html + sums.pdf ≡ sum (take columns numbers) },
 }
 
 impl Counts {
-    /// Puts the sum of a column's formats into the column, and adds them to the sums.
-    fn add(&mut self, column: usize, formats: Formats)
-        requires column { column < 12 }
-        requires formats { (formats.html ≤ 2 ^ 41) × (formats.pdf ≤ 2 ^ 41) }
-        requires sums { (self.old.html ≤ column * 2 ^ 41) × (self.old.pdf ≤ column * 2 ^ 41) }
-        ensures added { self.new ≡ record { numbers = slice_set self.old.numbers column (formats.html + formats.pdf); html = self.old.html + formats.html; pdf = self.old.pdf + formats.pdf } }
-        ensures full { length self.old.numbers ≡ 12 }
+    ghost use Rattle.std.specs.Prelude.{ℕ, ◌<◌, [], ◌∷◌, ◌++◌};
+    ghost use Rattle.std.specs.List.{list_all};
+    ghost use Rattle.reports.specs.Counting.{Gives, usage_of, with_column};
+    ghost use Rattle.reports.specs.Reports.{is_low, shown_numbers};
+    ghost use Rattle.reports.specs.Tables.{usage_by};
+
+    /// Those of a line with so many columns, each of the formats that are given for it.
+    pub fn by_column<F: Fn(usize) -> Formats<u64>>(columns: usize, formats: F) -> Counts
+        requires few { columns ≤ 12 }
+        requires given { (c : ℕ) → c < columns → F.pre formats c }
+        requires low { (c : ℕ) (f : _) → c < columns → F.post formats c f → (f.html ≤ 2 ^ 41) × (f.pdf ≤ 2 ^ 41) }
+        ensures { (html pdf : ℕ → ℕ) → Gives (F.post formats) columns html pdf → usage_of result ≡ usage_by html pdf columns }
     {
-        self.numbers[column] = formats.html + formats.pdf;
-        self.html += formats.html;
-        self.pdf += formats.pdf;
+        let mut counts = Counts::none();
+        for column in 0..columns {
+            counts.add(formats(column));
+        }
+        counts
+    }
+
+    /// Those of a line with no column.
+    fn none() -> Counts
+        ensures columns { result.columns ≡ 0 }
+        ensures usage { usage_of result ≡ record { columns = []; html = 0; pdf = 0 } }
+    {
+        Counts {
+            numbers: [0; 12],
+            columns: 0,
+            sums: Formats { html: 0, pdf: 0 },
+        }
+    }
+
+    /// Adds a column with the sum of its formats, and adds each format to its sum.
+    fn add(&mut self, formats: Formats<u64>)
+        requires room { self.old.columns < 12 }
+        requires low { (formats.html ≤ 2 ^ 41) × (formats.pdf ≤ 2 ^ 41) }
+        ensures columns { self.new.columns ≡ self.old.columns + 1 }
+        ensures usage { usage_of self.new ≡ with_column (usage_of self.old) formats }
+    {
+        self.numbers[self.columns] = formats.html + formats.pdf;
+        self.columns += 1;
+        self.sums.html += formats.html;
+        self.sums.pdf += formats.pdf;
+    }
+
+    /// The numbers of the columns.
+    pub fn numbers(&self) -> &[u64]
+        ensures { result.now ≡ (usage_of self.now).columns }
+    {
+        &self.numbers[..self.columns]
+    }
+
+    /// The sum of each format over all columns.
+    pub fn sums(&self) -> Formats<u64>
+        ensures { result ≡ record { html = (usage_of self.now).html; pdf = (usage_of self.now).pdf } }
+    {
+        self.sums
     }
 
     /// The sum of all columns.
     pub fn total(&self) -> u64
-        requires { (self.now.html ≤ 2 ^ 45) × (self.now.pdf ≤ 2 ^ 45) }
-        ensures { result ≡ self.now.html + self.now.pdf }
+        ensures columns { result ≡ sum (usage_of self.now).columns }
+        ensures formats { result ≡ (usage_of self.now).html + (usage_of self.now).pdf }
     {
-        self.html + self.pdf
+        self.sums.html + self.sums.pdf
     }
 
     /// Whether each number that is shown is low enough.
     ///
     /// No format's sum is over the total.
-    pub fn can_be_shown(&self, shape: Shape) -> bool
-        requires columns { shape.columns ≤ 12 }
-        requires balanced { Balanced shape.columns self.now }
-        ensures { result ≡ list_all is_low (shown_numbers shape.ytd (usage_of shape.columns self.now)) }
+    pub fn can_be_shown(&self, ytd: bool) -> bool
+        ensures { result ≡ list_all is_low (shown_numbers ytd (usage_of self.now)) }
     {
-        self.columns_are_low(shape.columns) && (!shape.ytd || self.total() <= HIGHEST)
+        self.columns_are_low() && (!ytd || self.total() <= HIGHEST)
     }
 
-    fn columns_are_low(&self, columns: usize) -> bool
-        requires { columns ≤ 12 }
-        ensures { result ≡ list_all is_low (take columns self.now.numbers) }
+    fn columns_are_low(&self) -> bool
+        ensures { result ≡ list_all is_low (usage_of self.now).columns }
     {
-        for column in 0..columns {
-            if self.numbers[column] > HIGHEST {
-                return false;
-            }
-        }
-        true
+        self.numbers().iter().all(|number| *number <= HIGHEST)
     }
-}
-
-/// A title's requests in a column.
-fn title_formats(cells: &[u32], columns: usize, title: usize, column: usize) -> Formats
-    requires { (title * columns + column) * 2 + 1 < length cells.now }
-    ensures formats { result ≡ record { html = html_at cells.now columns title column; pdf = pdf_at cells.now columns title column } }
-    ensures low { (result.html < 2 ^ 32) × (result.pdf < 2 ^ 32) }
-{
-    let at = (title * columns + column) * 2;
-    Formats {
-        html: u64::from(cells[at]),
-        pdf: u64::from(cells[at + 1]),
-    }
-}
-
-/// The requests of all titles in a column.
-fn column_formats(titles: &[Title<'_>], cells: &[u32], columns: usize, column: usize) -> Formats
-    requires table { length cells.now ≡ length titles.now * columns * 2 }
-    requires few { length titles.now ≤ 512 }
-    requires column { column < columns }
-    ensures formats { result ≡ record { html = html_sum cells.now columns (length titles.now) column; pdf = pdf_sum cells.now columns (length titles.now) column } }
-    ensures low { (result.html ≤ 2 ^ 41) × (result.pdf ≤ 2 ^ 41) }
-{
-    let mut sum = Formats { html: 0, pdf: 0 };
-    for (title, _) in titles.iter().enumerate() {
-        let formats = title_formats(cells, columns, title, column);
-        sum.html += formats.html;
-        sum.pdf += formats.pdf;
-    }
-    sum
-}
-
-/// The numbers of a title's line.
-pub(crate) fn title_counts(cells: &[u32], columns: usize, title: usize) -> Counts
-    requires few { columns ≤ 12 }
-    requires table { (title + 1) * columns * 2 ≤ length cells.now }
-    ensures usage { usage_of columns result ≡ usage_by (html_at cells.now columns title) (pdf_at cells.now columns title) columns }
-    ensures balanced { Balanced columns result }
-{
-    let mut counts = Counts {
-        numbers: [0; 12],
-        html: 0,
-        pdf: 0,
-    };
-    for column in 0..columns {
-        counts.add(column, title_formats(cells, columns, title, column));
-    }
-    counts
-}
-
-/// The numbers of the line for all journals.
-pub(crate) fn total_counts(titles: &[Title<'_>], cells: &[u32], columns: usize) -> Counts
-    requires table { length cells.now ≡ length titles.now * columns * 2 }
-    requires few { (length titles.now ≤ 512) × (columns ≤ 12) }
-    ensures usage { usage_of columns result ≡ usage_by (html_sum cells.now columns (length titles.now)) (pdf_sum cells.now columns (length titles.now)) columns }
-    ensures balanced { Balanced columns result }
-{
-    let mut counts = Counts {
-        numbers: [0; 12],
-        html: 0,
-        pdf: 0,
-    };
-    for column in 0..columns {
-        counts.add(column, column_formats(titles, cells, columns, column));
-    }
-    counts
 }

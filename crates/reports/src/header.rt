@@ -1,7 +1,7 @@
 //! What a report says besides its titles and their counts.
 
 /// A day, month and day of the month counted from 1.
-#[derive(Clone, Copy)]
+#[derive(Clone, Copy, Debug, PartialEq, Eq)]
 pub struct Date {
     pub year: u16,
     pub month: u8,
@@ -11,7 +11,7 @@ pub struct Date {
 /// Whom a report is for, when it was run, and where the journals are hosted.
 ///
 /// Any bytes may stand in the two texts, and any numbers in the date: writing judges them.
-#[derive(Clone, Copy)]
+#[derive(Clone, Copy, Debug, PartialEq, Eq)]
 pub struct Header<'a> {
     /// A text that names the customer.
     pub criteria: &'a [u8],

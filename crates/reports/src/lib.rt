@@ -2,14 +2,17 @@
 #![tactic(auto)]
 
 mod check;
+mod counted;
 mod counts;
 mod header;
 mod line;
+mod page;
 mod publisher;
-mod put;
 mod refusal;
+mod table;
 mod writer;
 
+pub use counts::Formats;
 pub use header::{Date, Header};
 pub use refusal::WriteRefusal;
 pub use writer::write;

@@ -1,22 +1,22 @@
 //! The lines of a report.
-ghost use Rattle.std.specs.Prelude.{◌≡◌, ◌≤◌, [], map, take, decimal, slice_index_or};
+ghost use Rattle.std.specs.Prelude.{◌≡◌, [], map, decimal, slice_index_or};
 ghost use Rattle.std.specs.List.{flat_map};
 ghost use Rattle.titles.specs.Titles.{entry_of, issn_bytes};
-ghost use Rattle.reports.specs.Counting.{Balanced, usage_of};
+ghost use Rattle.reports.specs.Counting.{usage_of};
 ghost use Rattle.reports.specs.Labels.{label_text, labelled_line};
 ghost use Rattle.reports.specs.Puts.{Put};
 ghost use Rattle.reports.specs.Reports.{ytd_numbers};
 ghost use Rattle.reports.specs.Tables.{line_with};
 ghost use Rattle.reports.specs.Written.{date_text, heading_line, line_text, next_cell, title_line, two_digits, ytd_headings};
 
-use crate::counts::{Counts, Shape};
+use crate::counts::Counts;
 use crate::header::Date;
-use crate::put::{put_bytes, put_line_end, put_number_cell, put_text_cell};
+use crate::page::Page;
 use columns::{ColumnScheme, year_digits};
 use titles::{Issn, Title};
 
 /// The five cells with which the lines of a report's table begin.
-#[derive(Clone, Copy)]
+#[derive(Clone, Copy, Debug, PartialEq, Eq)]
 pub(crate) struct Label<'a> {
     pub name: &'a [u8],
     pub publisher: &'a [u8],
@@ -26,21 +26,21 @@ pub(crate) struct Label<'a> {
 }
 
 /// Writes a line of one cell.
-pub(crate) fn put_single_line(out: &mut [u8], at: usize, cell: &[u8]) -> usize
-    ensures { Put out.old at (line_text cell.now []) out.new result }
+pub(crate) fn put_single_line(page: &mut Page<'_>, cell: &[u8])
+    ensures { Put page.old (line_text cell.now []) page.new }
 {
-    let at = put_bytes(out, at, cell);
-    put_line_end(out, at)
+    page.put_bytes(cell);
+    page.put_line_end();
 }
 
 /// Writes the line with the date, as yyyy-mm-dd.
-pub(crate) fn put_date_line(out: &mut [u8], at: usize, date: Date) -> usize
-    ensures { Put out.old at (line_text (date_text date.year date.month date.day) []) out.new result }
+pub(crate) fn put_date_line(page: &mut Page<'_>, date: Date)
+    ensures { Put page.old (line_text (date_text date.year date.month date.day) []) page.new }
 {
     let [a, b, c, d] = year_digits(date.year);
     let [e, f] = two_digits(date.month);
     let [g, h] = two_digits(date.day);
-    put_single_line(out, at, &[a, b, c, d, b'-', e, f, b'-', g, h])
+    put_single_line(page, &[a, b, c, d, b'-', e, f, b'-', g, h]);
 }
 
 /// The tens and the ones of a number, in ASCII.
@@ -51,19 +51,16 @@ fn two_digits(n: u8) -> [u8; 2]
 }
 
 /// Writes the cells with which a line begins.
-fn put_label(out: &mut [u8], at: usize, label: &Label<'_>) -> usize
-    ensures { Put out.old at (label_text label.now) out.new result }
+fn put_label(page: &mut Page<'_>, label: &Label<'_>)
+    ensures { Put page.old (label_text label.now) page.new }
 {
-    let at = put_bytes(out, at, label.name);
-    let at = put_text_cell(out, at, label.publisher);
-    let at = put_text_cell(out, at, label.platform);
-    let at = put_text_cell(out, at, label.print);
-    put_text_cell(out, at, label.online)
+    page.put_bytes(label.name);
+    page.put_cells(&[label.publisher, label.platform, label.print, label.online]);
 }
 
 /// Writes the line of the headings.
-pub(crate) fn put_heading_line<S: ColumnScheme>(out: &mut [u8], at: usize, scheme: &S) -> usize
-    ensures { Put out.old at (heading_line (S.ColumnScheme.layout scheme.now)) out.new result }
+pub(crate) fn put_heading_line<S: ColumnScheme>(page: &mut Page<'_>, scheme: &S)
+    ensures { Put page.old (heading_line (S.ColumnScheme.layout scheme.now)) page.new }
 {
     let label = Label {
         name: b"",
@@ -72,100 +69,65 @@ pub(crate) fn put_heading_line<S: ColumnScheme>(out: &mut [u8], at: usize, schem
         print: b"Print ISSN",
         online: b"Online ISSN",
     };
-    let at = put_label(out, at, &label);
-    let at = put_headings(out, at, scheme);
-    let at = put_ytd_headings(out, at, scheme.has_ytd());
-    put_line_end(out, at)
+    put_label(page, &label);
+    put_headings(page, scheme);
+    put_ytd_headings(page, scheme.has_ytd());
+    page.put_line_end();
 }
 
 /// Writes the headings of the columns.
-fn put_headings<S: ColumnScheme>(out: &mut [u8], at: usize, scheme: &S) -> usize
-    ensures { Put out.old at (flat_map next_cell (S.ColumnScheme.layout scheme.now).headings) out.new result }
+fn put_headings<S: ColumnScheme>(page: &mut Page<'_>, scheme: &S)
+    ensures { Put page.old (flat_map next_cell (S.ColumnScheme.layout scheme.now).headings) page.new }
 {
-    let mut end = at;
+    // By number: a scheme hands its headings out one by one.
     for column in 0..scheme.columns() {
-        end = put_text_cell(out, end, heading_or_blank(scheme, column));
+        page.put_cell(heading_or_blank(scheme, column));
     }
-    end
 }
 
 /// The heading of a column, and blank past the last.
 fn heading_or_blank<S: ColumnScheme>(scheme: &S, column: usize) -> &[u8]
     ensures { result.now ≡ slice_index_or (S.ColumnScheme.layout scheme.now).headings column [] }
 {
-    match scheme.heading(column) {
-        Some(heading) => heading,
-        None => b"",
-    }
+    scheme.heading(column).unwrap_or(b"")
 }
 
 /// Writes the headings of the year-to-date columns, if they follow.
-fn put_ytd_headings(out: &mut [u8], at: usize, ytd: bool) -> usize
-    ensures { Put out.old at (flat_map next_cell (ytd_headings ytd)) out.new result }
+fn put_ytd_headings(page: &mut Page<'_>, ytd: bool)
+    ensures { Put page.old (flat_map next_cell (ytd_headings ytd)) page.new }
 {
-    if !ytd {
-        return at;
-    }
-    let at = put_text_cell(out, at, b"YTD Total");
-    let at = put_text_cell(out, at, b"YTD HTML");
-    put_text_cell(out, at, b"YTD PDF")
+    let headings: [&[u8]; 3] = [b"YTD Total", b"YTD HTML", b"YTD PDF"];
+    page.put_cells(if ytd { &headings } else { &[] });
 }
 
 /// Writes a line of the table.
-pub(crate) fn put_count_line(
-    out: &mut [u8],
-    at: usize,
-    label: &Label<'_>,
-    counts: &Counts,
-    shape: Shape,
-) -> usize
-    requires columns { shape.columns ≤ 12 }
-    requires balanced { Balanced shape.columns counts.now }
-    ensures { Put out.old at (labelled_line shape.ytd label.now (usage_of shape.columns counts.now)) out.new result }
+pub(crate) fn put_count_line(page: &mut Page<'_>, label: &Label<'_>, counts: &Counts, ytd: bool)
+    ensures { Put page.old (labelled_line ytd label.now (usage_of counts.now)) page.new }
 {
-    let at = put_label(out, at, label);
-    let at = put_numbers(out, at, counts, shape.columns);
-    let at = put_ytd_numbers(out, at, counts, shape);
-    put_line_end(out, at)
-}
-
-/// Writes the numbers of the columns.
-fn put_numbers(out: &mut [u8], at: usize, counts: &Counts, columns: usize) -> usize
-    requires { columns ≤ 12 }
-    ensures { Put out.old at (flat_map next_cell (map decimal (take columns counts.now.numbers))) out.new result }
-{
-    let mut end = at;
-    for column in 0..columns {
-        end = put_number_cell(out, end, counts.numbers[column]);
-    }
-    end
+    put_label(page, label);
+    page.put_cells(counts.numbers());
+    put_ytd_numbers(page, counts, ytd);
+    page.put_line_end();
 }
 
 /// Writes the numbers of the year-to-date columns, if they follow.
-fn put_ytd_numbers(out: &mut [u8], at: usize, counts: &Counts, shape: Shape) -> usize
-    requires { Balanced shape.columns counts.now }
-    ensures { Put out.old at (flat_map next_cell (map decimal (ytd_numbers shape.ytd (usage_of shape.columns counts.now)))) out.new result }
+fn put_ytd_numbers(page: &mut Page<'_>, counts: &Counts, ytd: bool)
+    ensures { Put page.old (flat_map next_cell (map decimal (ytd_numbers ytd (usage_of counts.now)))) page.new }
 {
-    if !shape.ytd {
-        return at;
-    }
-    let at = put_number_cell(out, at, counts.total());
-    let at = put_number_cell(out, at, counts.html);
-    put_number_cell(out, at, counts.pdf)
+    let sums = counts.sums();
+    let numbers = [counts.total(), sums.html, sums.pdf];
+    page.put_cells(if ytd { &numbers } else { &[] });
 }
 
 /// Writes a title's line.
 pub(crate) fn put_title_line<'a>(
-    out: &mut [u8],
-    at: usize,
+    page: &mut Page<'_>,
     title: &'a Title<'a>,
     platform: &'a [u8],
     counts: &Counts,
-    shape: Shape,
-) -> usize
-    requires columns { shape.columns ≤ 12 }
-    requires balanced { Balanced shape.columns counts.now }
-    ensures { Put out.old at (title_line shape.ytd platform.now (line_with (entry_of title.now) (usage_of shape.columns counts.now))) out.new result }
+    ytd: bool,
+)
+    ensures { Put page.old (title_line ytd platform.now (line_with (entry_of title.now) (usage_of counts.now))) page.new }
 {
     let label = Label {
         name: title.name,
@@ -174,7 +136,7 @@ pub(crate) fn put_title_line<'a>(
         print: issn_bytes(&title.print),
         online: issn_bytes(&title.online),
     };
-    put_count_line(out, at, &label, counts, shape)
+    put_count_line(page, &label, counts, ytd);
 }
 
 /// An ISSN as it is shown: a blank one is a blank cell.

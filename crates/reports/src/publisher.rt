@@ -10,12 +10,11 @@ use titles::Title;
 pub(crate) fn shared_publisher<'a>(titles: &[Title<'a>]) -> &'a [u8]
     ensures { result.now ≡ shared (map (λ t. t.publisher.now) titles.now) }
 {
-    if titles.is_empty() {
+    let Some((first, others)) = titles.split_first() else {
         return b"";
-    }
-    let publisher = titles[0].publisher;
-    if all_published_by(titles, publisher) {
-        publisher
+    };
+    if all_published_by(others, first.publisher) {
+        first.publisher
     } else {
         b""
     }
@@ -23,18 +22,7 @@ pub(crate) fn shared_publisher<'a>(titles: &[Title<'a>]) -> &'a [u8]
 
 /// Whether each title has that publisher.
 fn all_published_by(titles: &[Title<'_>], publisher: &[u8]) -> bool
-    ensures { result ≡ list_all (bytes_eq publisher.now) (map (λ t. t.publisher.now) titles.now) }
+    ensures { result ≡ list_all (λ t. bytes_eq publisher.now t.publisher.now) titles.now }
 {
-    for title in 0..titles.len() {
-        if !same_bytes(publisher, titles[title].publisher) {
-            return false;
-        }
-    }
-    true
-}
-
-fn same_bytes(a: &[u8], b: &[u8]) -> bool
-    ensures { result ≡ bytes_eq a.now b.now }
-{
-    a == b
+    titles.iter().all(|title| publisher == title.publisher)
 }

@@ -2,7 +2,7 @@
 use crate::{Date, Header, WriteRefusal, write};
 use columns::{ColumnScheme, MonthScheme, YearScheme};
 use ledger::{Open, Settled, Unopened, Unsettled};
-use records::{BestRule, Item, Request};
+use records::{BestRule, Request};
 use std::test::Fail;
 use titles::{Title, read_issn};
 
@@ -77,8 +77,8 @@ fn settled<S: ColumnScheme + Drop>(
         }
     };
     for (journal, format, time) in REQUESTS {
-        let item = Item::Readable(request(journal, format, time));
-        ledger.offer(waiting, cells, &item);
+        let item = Ok(request(journal, format, time));
+        let _ = ledger.offer(waiting, cells, &item);
     }
     match ledger.settle(waiting, cells) {
         Ok(ledger) => Some(ledger),
@@ -211,10 +211,10 @@ fn header_first(rt: HostRuntime) -> Result<(), Fail> {
         &mut out,
     );
     ledger.close();
-    assert!(rt; matches!(criteria, Err(WriteRefusal::Criteria)));
-    assert!(rt; matches!(platform, Err(WriteRefusal::Platform)));
-    assert!(rt; matches!(date, Err(WriteRefusal::Date)));
-    assert!(rt; matches!(count, Err(WriteRefusal::TitleCount)));
+    assert_eq!(rt; criteria, Err(WriteRefusal::Criteria));
+    assert_eq!(rt; platform, Err(WriteRefusal::Platform));
+    assert_eq!(rt; date, Err(WriteRefusal::Date));
+    assert_eq!(rt; count, Err(WriteRefusal::TitleCount));
     assert!(rt; out == [b'.'; 9]);
     Ok(())
 }
@@ -233,9 +233,9 @@ fn then_titles_and_table(rt: HostRuntime) -> Result<(), Fail> {
     let buffer = write(&ledger, &[0; 8], &titles(b"Lock Press"), &header, &mut out);
     ledger.close();
     assert!(rt; matches!(title, Err(WriteRefusal::Title { title: 1, fault: _ })));
-    assert!(rt; matches!(table, Err(WriteRefusal::CellCount)));
-    assert!(rt; matches!(number, Err(WriteRefusal::Number)));
-    assert!(rt; matches!(buffer, Err(WriteRefusal::Buffer)));
+    assert_eq!(rt; table, Err(WriteRefusal::CellCount));
+    assert_eq!(rt; number, Err(WriteRefusal::Number));
+    assert_eq!(rt; buffer, Err(WriteRefusal::Buffer));
     assert!(rt; out == [b'.'; 9]);
     Ok(())
 }

@@ -1,23 +1,22 @@
 //! Writing a report.
-ghost use Rattle.std.specs.Prelude.{◌≡◌, ◌*◌, ◌≤◌, map, length, IfErr};
+ghost use Rattle.std.specs.Prelude.{◌≡◌, length, IfErr};
 ghost use Rattle.std.specs.List.{flat_map};
-ghost use Rattle.titles.specs.Titles.{entry_of};
 ghost use Rattle.reports.specs.Answers.{answer, buffer_after, head_of, refusal_number, subject_of, text_about};
 ghost use Rattle.reports.specs.Checks.{Checked};
-ghost use Rattle.reports.specs.Counting.{TotalsOf};
+ghost use Rattle.reports.specs.Counting.{lines_of};
 ghost use Rattle.reports.specs.Puts.{Put};
-ghost use Rattle.reports.specs.Tables.{lines_from, report_of};
 ghost use Rattle.reports.specs.Written.{front_text, report_text, title_line};
 
 use crate::check::{check_header, check_titles};
-use crate::counts::{Counts, Shape, title_counts, total_counts};
+use crate::counted::Counted;
 use crate::header::Header;
 use crate::line::{
     Label, put_count_line, put_date_line, put_heading_line, put_single_line, put_title_line,
 };
+use crate::page::Page;
 use crate::publisher::shared_publisher;
-use crate::put::{put_bytes, put_line_end, put_text_cell};
 use crate::refusal::WriteRefusal;
+use crate::table::Table;
 use columns::ColumnScheme;
 use ledger::Settled;
 use titles::Title;
@@ -36,22 +35,28 @@ pub fn write<'a, R, S: ColumnScheme>(
     ensures numbered { IfErr result (λ e. refusal_number e ≡ 11) }
     ensures buffer { out.new ≡ buffer_after result (text_about (subject_of S.ColumnScheme.layout ledger.now cells.now titles.now header.now)) out.old }
 {
-    let totals = checked_totals(ledger, cells, titles, header)?;
-    let mut none = [0; 0];
-    let length = put_report(&mut none, ledger.scheme(), cells, titles, header, &totals);
-    if length > out.len() {
+    let counted = checked(ledger, cells, titles, header)?;
+    let scheme = ledger.scheme();
+    let mut none = Page {
+        out: &mut [],
+        at: 0,
+    };
+    put_report(&mut none, scheme, header, &counted);
+    if none.at > out.len() {
         return Err(WriteRefusal::Buffer);
     }
-    Ok(put_report(out, ledger.scheme(), cells, titles, header, &totals))
+    let mut page = Page { out, at: 0 };
+    put_report(&mut page, scheme, header, &counted);
+    Ok(page.at)
 }
 
-/// Judges all but the buffer, and gives the numbers of the line for all journals.
-fn checked_totals<R, S: ColumnScheme>(
+/// Judges all but the buffer.
+fn checked<'c, 'a, R, S: ColumnScheme>(
     ledger: &Settled<R, S>,
-    cells: &[u32],
-    titles: &[Title<'_>],
+    cells: &'c [u32],
+    titles: &'a [Title<'a>],
     header: &Header<'_>,
-) -> Result<Counts, WriteRefusal>
+) -> Result<Counted<'c, 'a>, WriteRefusal>
     ensures { Checked (subject_of S.ColumnScheme.layout ledger.now cells.now titles.now header.now) result }
 {
     check_header(header)?;
@@ -59,72 +64,63 @@ fn checked_totals<R, S: ColumnScheme>(
         return Err(WriteRefusal::TitleCount);
     }
     check_titles(titles)?;
-    let shape = Shape::of(ledger.scheme());
-    if cells.len() != titles.len() * shape.columns * 2 {
+    let scheme = ledger.scheme();
+    let columns = scheme.columns();
+    if cells.len() != titles.len() * columns * 2 {
         return Err(WriteRefusal::CellCount);
     }
-    let totals = total_counts(titles, cells, shape.columns);
-    if !totals.can_be_shown(shape) {
+    let table = Table {
+        titles,
+        cells,
+        columns,
+    };
+    let totals = table.total_counts();
+    if !totals.can_be_shown(scheme.has_ytd()) {
         return Err(WriteRefusal::Number);
     }
-    Ok(totals)
+    Ok(Counted { table, totals })
 }
 
 /// Writes a report whose parts are what they should be.
 fn put_report<'a, S: ColumnScheme>(
-    out: &mut [u8],
+    page: &mut Page<'_>,
     scheme: &S,
-    cells: &[u32],
-    titles: &'a [Title<'a>],
     header: &Header<'a>,
-    totals: &Counts,
-) -> usize
-    requires { TotalsOf cells.now (length (S.ColumnScheme.layout scheme.now).headings) (map entry_of titles.now) totals.now }
-    ensures { let l = S.ColumnScheme.layout scheme.now in Put out.old 0 (report_text l (report_of (head_of header.now) cells.now (length l.headings) (map entry_of titles.now))) out.new result }
+    counted: &Counted<'_, 'a>,
+)
+    requires { counted.now.table.columns ≡ length (S.ColumnScheme.layout scheme.now).headings }
+    ensures { Put page.old (report_text (S.ColumnScheme.layout scheme.now) (record { head = head_of header.now; lines = lines_of counted.now.table })) page.new }
 {
-    let shape = Shape::of(scheme);
-    let at = put_front(out, scheme, header);
-    let at = put_heading_line(out, at, scheme);
+    put_front(page, scheme, header);
+    put_heading_line(page, scheme);
     let label = Label {
         name: b"Total for all journals",
-        publisher: shared_publisher(titles),
+        publisher: shared_publisher(counted.table.titles),
         platform: header.platform,
         print: b"",
         online: b"",
     };
-    let at = put_count_line(out, at, &label, totals, shape);
-    put_title_lines(out, at, cells, titles, header.platform, shape)
+    put_count_line(page, &label, &counted.totals, scheme.has_ytd());
+    put_title_lines(page, &counted.table, header.platform, scheme.has_ytd());
 }
 
 /// Writes the four lines above the table.
-fn put_front<S: ColumnScheme>(out: &mut [u8], scheme: &S, header: &Header<'_>) -> usize
-    ensures { Put out.old 0 (front_text (S.ColumnScheme.layout scheme.now) (head_of header.now)) out.new result }
+fn put_front<S: ColumnScheme>(page: &mut Page<'_>, scheme: &S, header: &Header<'_>)
+    ensures { Put page.old (front_text (S.ColumnScheme.layout scheme.now) (head_of header.now)) page.new }
 {
-    let at = put_bytes(out, 0, scheme.report());
-    let at = put_text_cell(out, at, scheme.description());
-    let at = put_line_end(out, at);
-    let at = put_single_line(out, at, header.criteria);
-    let at = put_single_line(out, at, b"Date run:");
-    put_date_line(out, at, header.date)
+    page.put_bytes(scheme.report());
+    page.put_cell(scheme.description());
+    page.put_line_end();
+    put_single_line(page, header.criteria);
+    put_single_line(page, b"Date run:");
+    put_date_line(page, header.date);
 }
 
 /// Writes a line for each title.
-fn put_title_lines<'a>(
-    out: &mut [u8],
-    at: usize,
-    cells: &[u32],
-    titles: &'a [Title<'a>],
-    platform: &'a [u8],
-    shape: Shape,
-) -> usize
-    requires columns { shape.columns ≤ 12 }
-    requires table { length cells.now ≡ length titles.now * shape.columns * 2 }
-    ensures { Put out.old at (flat_map (title_line shape.ytd platform.now) (lines_from cells.now shape.columns 0 (map entry_of titles.now))) out.new result }
+fn put_title_lines<'a>(page: &mut Page<'_>, table: &Table<'_, 'a>, platform: &'a [u8], ytd: bool)
+    ensures { Put page.old (flat_map (title_line ytd platform.now) (lines_of table.now)) page.new }
 {
-    let mut end = at;
-    for title in 0..titles.len() {
-        let counts = title_counts(cells, shape.columns, title);
-        end = put_title_line(out, end, &titles[title], platform, &counts, shape);
+    for (index, title) in table.titles.iter().enumerate() {
+        put_title_line(page, title, platform, &table.title_counts(index), ytd);
     }
-    end
 }

@@ -1,9 +1,10 @@
 -- What requests add to their cells.
-use Rattle.std.proofs.Common.{◌≡◌, ℕ, ◌+◌, ◌-◌, ◌*◌, ◌/◌, ◌%◌, ◌<◌, ◌≤◌, min, Bool, true, false, cond, ◌&&◌, eqb, ltb, leb, List, [], ◌∷◌, length, get_or, Some, None, count_by, Option, sym, refl, ap, ◌∙◌, ⊎_elim, arith}
+use Rattle.std.proofs.Common.{◌≡◌, ℕ, ◌+◌, ◌-◌, ◌*◌, ◌/◌, ◌%◌, ◌<◌, ◌≤◌, min, Bool, true, false, cond, ◌&&◌, eqb, ltb, List, [], ◌∷◌, length, get_or, Some, None, count_by, Option, sym, refl, ap, ◌∙◌, arith}
 use Rattle.std.proofs.lemmas.Nat.{div-mul-add, mod-mul-add, mul-add-lt}
-use Rattle.std.proofs.lemmas.List.{length-set, get_or-set_same, get_or-set_other}
+use Rattle.std.proofs.lemmas.List.{length-set}
 use Rattle.std.proofs.lemmas.List.Sums.{sum_by-cons}
-use Rattle.std.proofs.lemmas.Bool.{and_from, and_parts, cases_eq, cond-true, eq-eqb, leb-true, lt-ltb, ne_eqb}
+use Rattle.std.proofs.lemmas.Grind.{common_steps}
+use Rattle.std.proofs.lemmas.Bool.{and_from, cond-true, lt-ltb}
 use Rattle.std.proofs.lemmas.Bool.Decides.{Decides-and, Decides-eqb, Decides-like, same_from_decides}
 use Rattle.std.specs.List.{AllByRecursion}
 use Rattle.records.specs.declared.request.Request.{Request}
@@ -32,25 +33,18 @@ length_added u cs [] = refl
 length_added u cs (r ∷ rs) = length_added u (add_at cs (cell_of u r)) rs ∙ length_add_at cs (cell_of u r)
 
 get_d_add_at : (cs : List ℕ) (j i : ℕ) → i < length cs → get_or cs i 0 < 4294967295 → get_or (add_at cs (Some j)) i 0 ≡ get_or cs i 0 + cond (eqb j i) 1 0
-get_d_add_at cs j i lt small =
-    ⊎_elim
-    (λ e. rw (eq-eqb j i e, e, get_or-set_same) (omega arith))
-    (λ e. rw (ne_eqb j i e, get_or-set_other cs j i (min (get_or cs j 0 + 1) 4294967295) 0 (λ h. e (sym h))) (omega arith))
-    (cases_eq j i)
+get_d_add_at cs j i lt small = grind (arith, common_steps)
 
 -- an accepted request is HTML or PDF
 format_of : (r : Request) → in_range r ≡ true → within 1 2 r.format ≡ true
-format_of r e =
-    let a = (and_parts (within 0 3155759999 r.time) _ e).1 in
-    let b = (and_parts (within 100 599 r.status) _ a).1 in
-    (and_parts (within 1 2 r.format) _ b).0
+format_of r e = grind (arith, common_steps)
 
 module _ (u : Setup) (n : ℕ) (r : Request) (a : Acceptable u n r) where
   pub format_low : 1 ≤ r.format
-  format_low = leb-true 1 r.format (and_parts (leb 1 r.format) (leb r.format 2) (format_of r a.proper)).0
+  format_low = let e = format_of r a.proper in grind (arith, common_steps)
 
   pub format_high : r.format ≤ 2
-  format_high = leb-true r.format 2 (and_parts (leb 1 r.format) (leb r.format 2) (format_of r a.proper)).1
+  format_high = let e = format_of r a.proper in grind (arith, common_steps)
 
   -- an accepted request has a cell
   pub cell_is : cell_of u r ≡ Some (cell_at u r.journal a.column r.format)

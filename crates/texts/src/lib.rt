@@ -11,23 +11,18 @@ pub const LONGEST: usize = 200;
 pub fn is_fit(byte: u8) -> bool
     ensures { result ≡ fit byte }
 {
-    byte >= 0x20 && byte <= 0x7e && byte != b'"' && byte != b'\'' && byte != b','
+    matches!(byte, b' '..=b'~') && !matches!(byte, b'"' | b'\'' | b',')
 }
 
 /// Whether the bytes are a text: 1 to 200 of them, each fit.
 pub fn is_text(bytes: &[u8]) -> bool
     ensures { result ≡ is_text bytes.now }
 {
-    !bytes.is_empty() && bytes.len() <= LONGEST && all_fit(bytes)
+    (1..=LONGEST).contains(&bytes.len()) && all_fit(bytes)
 }
 
 fn all_fit(bytes: &[u8]) -> bool
     ensures { result ≡ all_fit bytes.now }
 {
-    for byte in bytes {
-        if !is_fit(*byte) {
-            return false;
-        }
-    }
-    true
+    bytes.iter().copied().all(is_fit)
 }

@@ -1,7 +1,6 @@
 -- Nine bytes are read by their halves: four digits, the hyphen, and the four signs behind it.
-use Rattle.std.proofs.Common.{◌≡◌, ℕ, ◌+◌, Bool, true, false, cond, eqb, List, [], ◌∷◌, length, get_or, Some, None, Ok, Err, Option, Result, sym, refl, ap, ◌∙◌}
+use Rattle.std.proofs.Common.{◌≡◌, ℕ, ◌+◌, Bool, true, false, cond, eqb, List, [], ◌∷◌, length, get_or, Some, None, Ok, Err, Option, Result, sym, refl, ap, ◌∙◌, arith}
 use Rattle.std.proofs.lemmas.Slice.Eq.{text_from_reads}
-use Rattle.std.proofs.lemmas.Bool.{eq-eqb, ne_eqb}
 use Rattle.titles.specs.declared.issn.Issn.{Issn}
 use Rattle.titles.specs.declared.issn.IssnFault.{IssnFault}
 use Rattle.titles.specs.declared.issn.IssnFault.TheVariants.{Unfit, CheckSum}
@@ -20,17 +19,7 @@ abbrev pub four : Bool → Bool → Bool → Bool → ℕ → ℕ → ℕ → �
 four p q r s i j k l rest = cond p (cond q (cond r (cond s rest (Some l)) (Some k)) (Some j)) (Some i)
 
 by_tests : (p q r s h t u v w : Bool) (m n : ℕ) (bs : List ℕ) → weighted bs ≡ m + n → read_nine (four p q r s 0 1 2 3 (cond h (four t u v w 5 6 7 8 None) (Some 4))) bs ≡ joined (unless (four p q r s 0 1 2 3 None) m) h (unless (four t u v w 5 6 7 8 None) n) bs
-by_tests false q r s h t u v w m n bs e = refl
-by_tests true false r s h t u v w m n bs e = refl
-by_tests true true false s h t u v w m n bs e = refl
-by_tests true true true false h t u v w m n bs e = refl
-by_tests true true true true false t u v w m n bs e = refl
-by_tests true true true true true false u v w m n bs e = refl
-by_tests true true true true true true false v w m n bs e = refl
-by_tests true true true true true true true false w m n bs e = refl
-by_tests true true true true true true true true false m n bs e = refl
-by_tests true true true true true true true true true m n bs e =
-    ap (λ x. cond (right_sum x) (Ok (record { bytes = bs })) (Err CheckSum)) e
+by_tests p q r s h t u v w m n bs e = grind arith
 
 module _ (s : List ℕ) (l : length s ≡ 9) where
   abbrev at : ℕ → ℕ
@@ -52,16 +41,6 @@ module _ (s : List ℕ) (l : length s ≡ 9) where
   by_halves =
       ap read_issn spelled ∙ by_tests (is_digit (at 0)) (is_digit (at 1)) (is_digit (at 2)) (is_digit (at 3)) (eqb (at 4) 45) (is_digit (at 5)) (is_digit (at 6)) (is_digit (at 7)) (is_check (at 8)) (front_sum (at 0) (at 1) (at 2) (at 3)) (back_sum (at 5) (at 6) (at 7) (at 8)) nine refl ∙ ap (joined front (eqb (at 4) 45) back) (sym spelled)
 
-  -- what each way of the reading gives
-  pub at_front : (x : IssnFault) → Err x ≡ front → read_issn s ≡ Err x
-  at_front x e = by_halves ∙ ap (λ r. joined r (eqb (at 4) 45) back s) (sym e)
-
-  pub at_hyphen : (m : ℕ) → Ok m ≡ front → (at 4 ≡ 45 → ⊥) → read_issn s ≡ Err (Unfit 4)
-  at_hyphen m e n = by_halves ∙ (λ i. joined (sym e i) (ne_eqb (at 4) 45 n i) back s)
-
-  pub at_back : (m : ℕ) (x : IssnFault) → Ok m ≡ front → at 4 ≡ 45 → Err x ≡ back → read_issn s ≡ Err x
-  at_back m x e h f = by_halves ∙ (λ i. joined (sym e i) (eq-eqb (at 4) 45 h i) (sym f i) s)
-
-  pub at_sum : (m n : ℕ) (t : Bool) → Ok m ≡ front → at 4 ≡ 45 → Ok n ≡ back → t ≡ right_sum (m + n) → read_issn s ≡ cond t (Ok (record { bytes = at 0 ∷ at 1 ∷ at 2 ∷ at 3 ∷ 45 ∷ at 5 ∷ at 6 ∷ at 7 ∷ at 8 ∷ [] })) (Err CheckSum)
-  at_sum m n t e h f w =
-      by_halves ∙ (λ i. joined (sym e i) (eq-eqb (at 4) 45 h i) (sym f i) s) ∙ ap (λ x. cond x (Ok (record { bytes = s })) (Err CheckSum)) (sym w) ∙ ap (λ x. cond t (Ok (record { bytes = x })) (Err CheckSum)) spelled ∙ ap (λ x. cond t (Ok (record { bytes = at 0 ∷ at 1 ∷ at 2 ∷ at 3 ∷ x ∷ at 5 ∷ at 6 ∷ at 7 ∷ at 8 ∷ [] })) (Err CheckSum)) h
+  -- where both halves are accepted and sum rightly, the bytes are the ISSN
+  pub at_sum : (m n : ℕ) → Ok m ≡ front → at 4 ≡ 45 → Ok n ≡ back → true ≡ right_sum (m + n) → read_issn s ≡ Ok (record { bytes = at 0 ∷ at 1 ∷ at 2 ∷ at 3 ∷ 45 ∷ at 5 ∷ at 6 ∷ at 7 ∷ at 8 ∷ [] })
+  at_sum m n e h f w = rw (by_halves, ← e, h, ← f, ← w) (ap (λ b. Ok (record { bytes = b })) (rw h at spelled))

@@ -1,11 +1,11 @@
 -- Bytes are read as an ISSN exactly where they spell a right one.
-use Rattle.std.proofs.Common.{◌≡◌, ℕ, ◌+◌, ◌-◌, ◌*◌, ◌%◌, ◌<◌, ◌≤◌, Bool, true, false, cond, eqb, List, [], ◌∷◌, length, get_or, is_ok, None, Ok, Err, Decides, Result, sym, refl, ap, ◌∙◌, arith}
-use Rattle.std.proofs.lemmas.Bool.{eq-eqb, eqb-true, false≢true}
+use Rattle.std.proofs.Common.{◌≡◌, ℕ, ◌+◌, ◌-◌, ◌*◌, ◌%◌, ◌<◌, ◌≤◌, Bool, true, cond, eqb, List, [], ◌∷◌, length, get_or, is_ok, None, Ok, Err, Decides, Result, sym, ap, ◌∙◌, arith}
+use Rattle.std.proofs.lemmas.Bool.{eq-eqb, eqb-true}
 use Rattle.std.proofs.lemmas.Bool.Decides.{nat_tests}
 use Rattle.titles.specs.declared.issn.Issn.{Issn}
 use Rattle.titles.specs.declared.issn.IssnFault.{IssnFault}
-use Rattle.titles.specs.declared.issn.IssnFault.TheVariants.{Length, CheckSum}
-use Rattle.titles.specs.Issns.{check_value, first_unfit_sign, is_check, is_digit, read_issn, read_nine, weighted}
+use Rattle.titles.specs.declared.issn.IssnFault.TheVariants.{CheckSum}
+use Rattle.titles.specs.Issns.{check_value, is_check, is_digit, read_issn, read_nine, weighted}
 use Rattle.titles.specs.Spelling.{Right, check_sign, digit}
 use Rattle.titles.specs.Weighing.{back_sum, front_sum, unless}
 use Rattle.titles.proofs.Halves.{by_halves, four, joined, spelled}
@@ -54,26 +54,13 @@ module _ (bs : List ℕ) (r : Right bs) where
       ap (λ x. is_ok (read_issn x)) r.written ∙ ap is_ok spelling_stands ∙ ap (λ t. is_ok {T = Issn} (cond t (Ok (record { bytes = spelling })) (Err CheckSum))) (eq-eqb (weighted spelling % 11) 0 spelling_sums)
 
 -- where the halves are accepted, every test passed
-passed : {E : Type 0} (t : Bool) (x : Result Issn E) (fault : E) → is_ok (cond t x (Err fault)) ≡ true → t ≡ true
-passed true x fault e = refl
-passed false x fault e = e
-
 tests_passed : (p q r s h t u v w : Bool) (m n : ℕ) (bs : List ℕ) → is_ok (joined (unless (four p q r s 0 1 2 3 None) m) h (unless (four t u v w 5 6 7 8 None) n) bs) ≡ true → (p ≡ true) × (q ≡ true) × (r ≡ true) × (s ≡ true) × (h ≡ true) × (t ≡ true) × (u ≡ true) × (v ≡ true) × (w ≡ true) × ((m + n) % 11 ≡ 0)
-tests_passed false q r s h t u v w m n bs e = absurd (false≢true e)
-tests_passed true false r s h t u v w m n bs e = absurd (false≢true e)
-tests_passed true true false s h t u v w m n bs e = absurd (false≢true e)
-tests_passed true true true false h t u v w m n bs e = absurd (false≢true e)
-tests_passed true true true true false t u v w m n bs e = absurd (false≢true e)
-tests_passed true true true true true false u v w m n bs e = absurd (false≢true e)
-tests_passed true true true true true true false v w m n bs e = absurd (false≢true e)
-tests_passed true true true true true true true false w m n bs e = absurd (false≢true e)
-tests_passed true true true true true true true true false m n bs e = absurd (false≢true e)
-tests_passed true true true true true true true true true m n bs e =
-    (refl, refl, refl, refl, refl, refl, refl, refl, refl, eqb-true ((m + n) % 11) 0 (passed (eqb ((m + n) % 11) 0) (Ok (record { bytes = bs })) CheckSum e))
+tests_passed p q r s h t u v w m n bs e =
+    (grind arith, grind arith, grind arith, grind arith, grind arith, grind arith, grind arith, grind arith, grind arith, grind (arith, nat_tests))
 
 module _ (s : List ℕ) (accepted : is_ok (read_issn s) ≡ true) where
   nine_long : length s ≡ 9
-  nine_long = eqb-true (length s) 9 (passed (eqb (length s) 9) (read_nine (first_unfit_sign 0 s) s) Length accepted)
+  nine_long = grind (arith, nat_tests)
 
   accepted_right : Right s
   accepted_right =
@@ -104,5 +91,8 @@ module _ (s : List ℕ) (accepted : is_ok (read_issn s) ≡ true) where
       }
 
 -- a reading accepts exactly what is right
+pub reading_decides : (bs : List ℕ) → Decides (is_ok (read_issn bs)) (Right bs)
+reading_decides bs = (accepted_right bs, right_reads bs)
+
 pub accepts : (bs : List ℕ) (r : Result Issn IssnFault) → r ≡ read_issn bs → Decides (is_ok r) (Right bs)
-accepts bs r e = (λ ok. accepted_right bs (ap is_ok (sym e) ∙ ok), λ right. ap is_ok e ∙ right_reads bs right)
+accepts bs r e = rw e (reading_decides bs)

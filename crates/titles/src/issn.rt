@@ -4,6 +4,9 @@ ghost use Rattle.titles.specs.Issns.{issn_fault_place, read_issn, right_sum};
 ghost use Rattle.titles.specs.Spelling.{Right};
 ghost use Rattle.titles.specs.Weighing.{check_at, digit_at, weigh_back, weigh_front};
 
+use std::error::Error;
+use std::fmt;
+
 /// Where the hyphen stands.
 const HYPHEN_PLACE: usize = 4;
 
@@ -13,13 +16,13 @@ const CHECK_PLACE: usize = 8;
 /// An ISSN, as it is written: four digits, a hyphen, three digits and a check sign.
 ///
 /// Only `read_issn` makes one.
-#[derive(Clone, Copy)]
+#[derive(Clone, Copy, Debug, PartialEq, Eq)]
 pub struct Issn {
     bytes: [u8; 9],
 }
 
 /// What is wrong with bytes that are no ISSN.
-#[derive(Clone, Copy)]
+#[derive(Clone, Copy, Debug, PartialEq, Eq)]
 pub enum IssnFault {
     /// There are not nine of them.
     Length,
@@ -42,6 +45,18 @@ impl IssnFault {
     }
 }
 
+impl fmt::Display for IssnFault {
+    fn fmt<W: fmt::Write>(&self, f: &mut fmt::Formatter<W>) -> fmt::Result {
+        match self {
+            IssnFault::Length => write!(f, "length"),
+            IssnFault::Unfit { .. } => write!(f, "unfit byte"),
+            IssnFault::CheckSum => write!(f, "check sum"),
+        }
+    }
+}
+
+impl Error for IssnFault {}
+
 impl Issn {
     /// The nine bytes that were read.
     pub fn as_bytes(&self) -> &[u8]
@@ -51,10 +66,21 @@ impl Issn {
     }
 }
 
+impl TryFrom<&[u8]> for Issn {
+    type Error = IssnFault;
+
+    ghost try_from_gives = { λ bytes r. r ≡ read_issn bytes.now };
+
+    fn try_from(bytes: &[u8]) -> Result<Issn, IssnFault> {
+        read_issn(bytes)
+    }
+}
+
 /// Reads an ISSN.
 ///
 /// The first seven digits times 8 down to 2, and the check sign, sum to a multiple of 11. A length other than nine
 /// is found first, then the first byte that may not stand at its place, and a wrong sum last.
+#[tactic(auto, using(crate::proofs::Halves::by_halves, crate::proofs::Spelled::reading_decides))]
 pub fn read_issn(bytes: &[u8]) -> Result<Issn, IssnFault>
     ensures read { result ≡ read_issn bytes.now }
     ensures right { Decides (is_ok result) (Right bytes.now) }

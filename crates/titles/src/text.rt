@@ -4,10 +4,12 @@ ghost use Rattle.texts.specs.Texts.{is_text};
 ghost use Rattle.titles.specs.Places.{map_ok};
 ghost use Rattle.titles.specs.Texts.{first_unfit_byte, read_text, text_fault_place};
 
+use std::error::Error;
+use std::fmt;
 use texts::{LONGEST, is_fit};
 
 /// Why bytes are no text.
-#[derive(Clone, Copy)]
+#[derive(Clone, Copy, Debug, PartialEq, Eq)]
 pub enum TextFault {
     /// There are none of them, or more than 200.
     Length,
@@ -27,12 +29,24 @@ impl TextFault {
     }
 }
 
+impl fmt::Display for TextFault {
+    fn fmt<W: fmt::Write>(&self, f: &mut fmt::Formatter<W>) -> fmt::Result {
+        match self {
+            TextFault::Length => write!(f, "length"),
+            TextFault::Unfit { .. } => write!(f, "unfit byte"),
+        }
+    }
+}
+
+impl Error for TextFault {}
+
 /// Checks that the bytes are a text: 1 to 200 of them, each fit.
+#[tactic(auto, using(crate::proofs::Fitness::all_fit_lem))]
 pub fn check_text(bytes: &[u8]) -> Result<(), TextFault>
     ensures read { map_ok (λ _. bytes.now) result ≡ read_text bytes.now }
     ensures text { is_ok result ≡ is_text bytes.now }
 {
-    if bytes.is_empty() || bytes.len() > LONGEST {
+    if !(1..=LONGEST).contains(&bytes.len()) {
         return Err(TextFault::Length);
     }
     match first_unfit(bytes) {
@@ -43,12 +57,7 @@ pub fn check_text(bytes: &[u8]) -> Result<(), TextFault>
 
 /// Where the first byte stands that may not stand in a text.
 fn first_unfit(bytes: &[u8]) -> Option<usize>
-    ensures { result ≡ first_unfit_byte 0 bytes.now }
+    ensures { result ≡ first_unfit_byte bytes.now }
 {
-    for (place, byte) in bytes.iter().enumerate() {
-        if !is_fit(*byte) {
-            return Some(place);
-        }
-    }
-    None
+    bytes.iter().position(|byte| !is_fit(*byte))
 }

@@ -5,11 +5,14 @@ ghost use Rattle.titles.specs.Titles.{check_issn, entry_of, is_entry, judge, new
 
 use crate::issn::{Issn, IssnFault, read_issn};
 use crate::text::{TextFault, check_text};
+use std::error::Error;
+use std::fmt;
 
 /// A journal: its name, its publisher, and the ISSNs of its printed and its online issues, each of which may be blank.
 ///
 /// Any bytes may stand in the name and the publisher. `check` tells whether they are texts.
-#[derive(Clone, Copy)]
+/// The default has no bytes in either, and both ISSNs blank.
+#[derive(Clone, Copy, Debug, Default, PartialEq, Eq)]
 pub struct Title<'a> {
     pub name: &'a [u8],
     pub publisher: &'a [u8],
@@ -18,13 +21,26 @@ pub struct Title<'a> {
 }
 
 /// The first part of a title that is not what it should be, and why.
-#[derive(Clone, Copy)]
+#[derive(Clone, Copy, Debug, PartialEq, Eq)]
 pub enum TitleFault {
     Name(TextFault),
     Publisher(TextFault),
     Print(IssnFault),
     Online(IssnFault),
 }
+
+impl fmt::Display for TitleFault {
+    fn fmt<W: fmt::Write>(&self, f: &mut fmt::Formatter<W>) -> fmt::Result {
+        match self {
+            TitleFault::Name(fault) => write!(f, "name: {fault}"),
+            TitleFault::Publisher(fault) => write!(f, "publisher: {fault}"),
+            TitleFault::Print(fault) => write!(f, "print ISSN: {fault}"),
+            TitleFault::Online(fault) => write!(f, "online ISSN: {fault}"),
+        }
+    }
+}
+
+impl Error for TitleFault {}
 
 impl<'a> Title<'a> {
     /// A title of these parts, if they are what they should be.
@@ -51,19 +67,10 @@ impl<'a> Title<'a> {
         ensures judged { map_ok (λ _. entry_of self.now) result ≡ judge (entry_of self.now) }
         ensures sound { is_ok result ≡ is_entry (entry_of self.now) }
     {
-        if let Err(fault) = check_text(self.name) {
-            return Err(TitleFault::Name(fault));
-        }
-        if let Err(fault) = check_text(self.publisher) {
-            return Err(TitleFault::Publisher(fault));
-        }
-        if let Err(fault) = check_issn(self.print) {
-            return Err(TitleFault::Print(fault));
-        }
-        if let Err(fault) = check_issn(self.online) {
-            return Err(TitleFault::Online(fault));
-        }
-        Ok(())
+        check_text(self.name).map_err(TitleFault::Name)?;
+        check_text(self.publisher).map_err(TitleFault::Publisher)?;
+        check_issn(self.print).map_err(TitleFault::Print)?;
+        check_issn(self.online).map_err(TitleFault::Online)
     }
 }
 

@@ -14,11 +14,11 @@ returns g c =
     let reported = c.report-written.ensures in
     let ledger = c.in_ok-ledger.ledger in
     let layout = g.S.ColumnScheme.layout in
-    let u = setup g.R.ReaderRule.relates g.S.ColumnScheme.place layout ledger.terms in
+    let u = setup g.R.ReaderRule g.S.ColumnScheme ledger.last.terms in
     let lines = (report_about (subject_of layout ledger c.run.new.cells c.args.titles.now c.args.header.now)).lines in
     let past = ran.led.5.0 in
     let stands = ran.led.5.2 in
-    let counts : is_ok c.report-written.result ≡ true → Counts u (layout c.args.scheme).ytd (unfollowed u past) lines = λ ok. counts_before u past (layout ledger.terms.scheme).ytd (layout c.args.scheme).ytd lines (ap (λ s. (layout s).ytd) {y = c.args.scheme} ran.led.1) (reported.law (settling true granted ∷ past) c.run.new.waiting stands ok) in
+    let counts : is_ok c.report-written.result ≡ true → Counts u (layout c.args.scheme).ytd (unfollowed u past) lines = λ ok. counts_before u past (layout ledger.last.terms.scheme).ytd (layout c.args.scheme).ytd lines (ap (λ s. (layout s).ytd) {y = c.args.scheme} ran.led.1) (reported.law (settling true granted ∷ past) c.run.new.waiting stands ok) in
     record {
       opened = search rules;
       steps = search rules;
@@ -33,7 +33,7 @@ returns g c =
         stands = stands;
         writing = search rules;
         counts = counts;
-        read_total = total_counts (λ (w : Written). w.titles ≡ ledger.terms.titles) (total u.columns lines) (length (unfollowed u past)) c.report-written.result reported.writing.found (λ ok. (counts ok).all);
+        read_total = total_counts (λ (w : Written). w.titles ≡ ledger.last.terms.titles) (total u.columns lines) (length (unfollowed u past)) c.report-written.result reported.writing.found (λ ok. (counts ok).all);
         tally = reported.tally (settling true granted ∷ past) c.run.new.waiting stands;
       };
     }

@@ -1,6 +1,5 @@
 -- The writer's own contract, what is read back, and what follows for a ledger that stands.
-use Rattle.std.proofs.Common.{◌≡◌, ◌-◌, ◌++◌, length, take, drop, Ok, sym, refl, ap, ◌∙◌, subst, arith, rules}
-use Rattle.cells.proofs.Granted.{no_ok, ok_same}
+use Rattle.std.proofs.Common.{◌≡◌, ◌++◌, length, take, drop, Ok, sym, refl, ap, ◌∙◌, subst, arith, rules}
 use Rattle.ledger.specs.Views.{settled_books_of, setup}
 use Rattle.reports.specs.Answers.{answer, report_about, subject_of, text_about}
 use Rattle.reports.specs.Reports.{Report}
@@ -21,21 +20,20 @@ slice_bounds-read_back-end g c =
     let is : Ok c.in_ok-length.length ≡ answer s (length c.args.out.now) = search rules in
     omega (arith, (written_length s (length c.args.out.now) c.in_ok-length.length is).1, c.write.auto.out)
 
-pub unreachable-requires : goal.unreachable-requires
-unreachable-requires g c =
+pub unwrap-found-requires : goal.unwrap-found-requires
+unwrap-found-requires g c =
     let layout = g.S.ColumnScheme.layout in
     let ledger = c.args.ledger.now in
     let s = subject_of layout ledger c.args.cells.now c.args.titles.now c.args.header.now in
     let n = c.in_ok-length.length in
     let room = length c.args.out.now in
     let is : Ok n ≡ answer s room = search rules in
-    let w = written_read s room n (g.met.S.ColumnScheme.sound ledger.terms.scheme) ledger.terms.some.0 ledger.terms.few.0 is in
-    let zero : n - 0 ≡ n = omega arith in
+    let w = written_read s room n (g.met.S.ColumnScheme.sound ledger.last.terms.scheme) ledger.last.terms.some.0 ledger.last.terms.few.0 is in
     let buffer : c.write.new.out ≡ text_about s ++ drop n c.args.out.now = c.in_ok-length.ensures.buffer in
-    let front : take (n - 0) c.write.new.out ≡ text_about s = (λ i. take (zero i) (buffer i)) ∙ written_front s room n c.args.out.now is in
+    let front : take n c.write.new.out ≡ text_about s = ap (take n) buffer ∙ written_front s room n c.args.out.now is in
     let got : c.read_back.result ≡ Ok (found_in w.0) =
     c.read_back.ensures ∙ (λ i. map_both found_in Faulty (read_file (layout (c.scheme.ensures i)) (front i))) ∙ ap (map_both found_in Faulty) w.1 in
-    no_ok c.in-Err.field-0 (found_in w.0) (sym c.in-Err.is ∙ got)
+    search (rules, got)
 
 pub returns : goal.returns
 returns g c =
@@ -43,19 +41,18 @@ returns g c =
     let ledger = c.args.ledger.now in
     let cells = c.args.cells.now in
     let s = subject_of layout ledger cells c.args.titles.now c.args.header.now in
-    let u = setup g.R.ReaderRule.relates g.S.ColumnScheme.place layout ledger.terms in
+    let u = setup g.R.ReaderRule g.S.ColumnScheme ledger.last.terms in
     let l = s.layout in
     let lines = (report_about s).lines in
     let n = c.in_ok-length.length in
     let room = length c.args.out.now in
     let is : Ok n ≡ answer s room = search rules in
-    let w = written_read s room n (g.met.S.ColumnScheme.sound ledger.terms.scheme) ledger.terms.some.0 ledger.terms.few.0 is in
-    let zero : n - 0 ≡ n = omega arith in
+    let w = written_read s room n (g.met.S.ColumnScheme.sound ledger.last.terms.scheme) ledger.last.terms.some.0 ledger.last.terms.few.0 is in
     let buffer : c.write.new.out ≡ text_about s ++ drop n c.args.out.now = c.in_ok-length.ensures.buffer in
-    let front : take (n - 0) c.write.new.out ≡ text_about s = (λ i. take (zero i) (buffer i)) ∙ written_front s room n c.args.out.now is in
+    let front : take n c.write.new.out ≡ text_about s = ap (take n) buffer ∙ written_front s room n c.args.out.now is in
     let got : c.read_back.result ≡ Ok (found_in w.0) =
     c.read_back.ensures ∙ (λ i. map_both found_in Faulty (read_file (layout (c.scheme.ensures i)) (front i))) ∙ ap (map_both found_in Faulty) w.1 in
-    let found : c.in-Ok.found ≡ found_in w.0 = ok_same c.in-Ok.found (found_in w.0) (sym c.in-Ok.is ∙ got) in
+    let found : c.unwrap-found.result ≡ found_in w.0 = let k = sym c.unwrap-found.ensures ∙ got in cc in
     let sums = sums_written s room (Ok n) is refl in
     record {
       writing = record {

@@ -1,6 +1,7 @@
 -- Bytes that break the pattern or hold no digits are no date, and of the others the calendar decides.
-use Rattle.std.proofs.Common.{◌≡◌, true, false, length, get_or, Some, ap, ◌∙◌, rules}
-use Rattle.cells.proofs.Dating.{not_formed, not_patterned, pair_none, pairs_read}
+use Rattle.std.proofs.Common.{◌≡◌, ◌+◌, ◌*◌, length, get_or, Some, ap, ◌∙◌, rules}
+use Rattle.std.specs.Bool.{then_some}
+use Rattle.cells.proofs.Dating.{new_date, not_formed, not_patterned, pair_none, pairs_read}
 use Rattle.cells.proofs.date.read_date.Goals as goal
 
 pub returns-in_default : goal.returns-in_default
@@ -35,22 +36,14 @@ returns-in_err-day c =
     let bytes = c.args.bytes.now in
     c.from_residual-in_err-day.ensures ∙ not_formed bytes (λ f. pair_none (get_or bytes 8 0) (get_or bytes 9 0) c.in_err-day.ensures f.day)
 
-pub returns-then-is_date : goal.returns-then-is_date
-returns-then-is_date c =
+pub returns : goal.returns
+returns c =
     let bytes = c.args.bytes.now in
     let long : length bytes ≡ 10 = search rules in
     let first : get_or bytes 4 0 ≡ 45 = search rules in
     let second : get_or bytes 7 0 ≡ 45 = search rules in
     let century = ap (λ n. Some n) c.from.ensures ∙ c.in_ok-century.ensures in
     let years = ap (λ n. Some n) c.from-2.ensures ∙ c.in_ok-years.ensures in
-    pairs_read bytes c.from.result c.from-2.result c.in_ok-month.month c.in_ok-day.day long (first, second) century years c.in_ok-month.ensures c.in_ok-day.ensures true c.if-is_date.ensures
-
-pub returns-else-is_date : goal.returns-else-is_date
-returns-else-is_date c =
-    let bytes = c.args.bytes.now in
-    let long : length bytes ≡ 10 = search rules in
-    let first : get_or bytes 4 0 ≡ 45 = search rules in
-    let second : get_or bytes 7 0 ≡ 45 = search rules in
-    let century = ap (λ n. Some n) c.from.ensures ∙ c.in_ok-century.ensures in
-    let years = ap (λ n. Some n) c.from-2.ensures ∙ c.in_ok-years.ensures in
-    pairs_read bytes c.from.result c.from-2.result c.in_ok-month.month c.in_ok-day.day long (first, second) century years c.in_ok-month.ensures c.in_ok-day.ensures false c.if-is_date.ensures
+    c.then_some.ensures
+    ∙ ap (λ t. then_some t (new_date (c.from.result * 100 + c.from-2.result) c.in_ok-month.month c.in_ok-day.day)) c.is_date.ensures
+    ∙ pairs_read bytes c.from.result c.from-2.result c.in_ok-month.month c.in_ok-day.day long (first, second) century years c.in_ok-month.ensures c.in_ok-day.ensures

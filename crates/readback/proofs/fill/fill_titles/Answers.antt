@@ -1,60 +1,65 @@
-use Rattle.std.proofs.Common.{sym, ◌∙◌, arith}
+use Rattle.std.proofs.Common.{◌+◌, ◌-◌, ◌*◌, ◌≤◌, length, Ok, Err, sym, ap, ◌∙◌, arith, rules}
 use Rattle.std.proofs.lemmas.Result.{err_from_is_err_and}
 use Rattle.cells.specs.Cells.{place_of}
-use Rattle.readback.proofs.FillTurns.{fill_last, fill_more, fill_stop, has_room, next_title, part_length, part_small, part_within}
+use Rattle.readback.specs.Answers.{held_by}
+use Rattle.readback.specs.Passes.{filled_row, over, row_with}
+use Rattle.readback.proofs.FillTurns.{one_more, part_length}
+use Rattle.readback.proofs.Room.{within}
+use Rattle.readback.proofs.Titles.{same_row, titles_full, titles_last, titles_more, titles_stop}
 use Rattle.readback.proofs.fill.fill_titles.Goals as goal
 
-pub overflow_mul-at : goal.overflow_mul-at
-overflow_mul-at g c =
-    let t = next_title (g.S.ColumnScheme.layout c.args.scheme.now) (g.met.S.ColumnScheme.sound c.args.scheme.now) c.args.titles.now c.args.numbers.now c.args.ytd.now c.requires c.loop-title.title (omega arith) c.columns-columns.ensures c.has_ytd-has_ytd.ensures c.loop-title.numbers c.loop-title.auto.numbers in
-    omega (arith, part_small t)
+pub returns-in_err-line-clause-filled : goal.returns-in_err-line-clause-filled
+returns-in_err-line-clause-filled g c =
+    let l = g.S.ColumnScheme.layout c.args.scheme.now in
+    let p = place_of c.loop-title.cells in
+    let n = c.loop-title.title in
+    let inside = within l (held_by c.args.tables.now) c.requires n c.columns-columns.result c.loop-title-test.true c.columns-columns.ensures in
+    let room : n * c.columns-columns.result + c.columns-columns.result ≤ length c.loop-title.tables.numbers.now = omega (arith, inside, c.loop-title.invariant.0.wide) in
+    let read = same_row l c.args.platform.now p (Err c.in_err-line.field-0.0) c.has_ytd-ytd.ensures (part_length n c.columns-columns.result c.loop-title.tables.numbers.now room ∙ c.columns-columns.ensures) c.in_err-line.ensures.row in
+    let e = err_from_is_err_and c.from_residual.result c.from_residual.ensures.1 in
+    rw (e.1, e.2)
+    (sym (titles_stop (filled_row l) l c.args.platform.now n c.loop-title-test.true p (record { count = n; tables = held_by c.loop-title.tables }) c.in_err-line.field-0.0 read)
+    ∙ c.loop-title.invariant.1)
 
-pub overflow_add-at : goal.overflow_add-at
-overflow_add-at g c =
-    let t = next_title (g.S.ColumnScheme.layout c.args.scheme.now) (g.met.S.ColumnScheme.sound c.args.scheme.now) c.args.titles.now c.args.numbers.now c.args.ytd.now c.requires c.loop-title.title (omega arith) c.columns-columns.ensures c.has_ytd-has_ytd.ensures c.loop-title.numbers c.loop-title.auto.numbers in
-    omega (arith, part_small t)
-
-pub offset_bounds-numbers-at : goal.offset_bounds-numbers-at
-offset_bounds-numbers-at g c =
-    let t = next_title (g.S.ColumnScheme.layout c.args.scheme.now) (g.met.S.ColumnScheme.sound c.args.scheme.now) c.args.titles.now c.args.numbers.now c.args.ytd.now c.requires c.loop-title.title (omega arith) c.columns-columns.ensures c.has_ytd-has_ytd.ensures c.loop-title.numbers c.loop-title.auto.numbers in
-    omega (arith, part_small t)
-
-pub slice_bounds-read_title-end : goal.slice_bounds-read_title-end
-slice_bounds-read_title-end g c =
-    let t = next_title (g.S.ColumnScheme.layout c.args.scheme.now) (g.met.S.ColumnScheme.sound c.args.scheme.now) c.args.titles.now c.args.numbers.now c.args.ytd.now c.requires c.loop-title.title (omega arith) c.columns-columns.ensures c.has_ytd-has_ytd.ensures c.loop-title.numbers c.loop-title.auto.numbers in
-    omega (arith, part_within t)
-
-pub read_title-requires : goal.read_title-requires
-read_title-requires g c =
-    let t = next_title (g.S.ColumnScheme.layout c.args.scheme.now) (g.met.S.ColumnScheme.sound c.args.scheme.now) c.args.titles.now c.args.numbers.now c.args.ytd.now c.requires c.loop-title.title (omega arith) c.columns-columns.ensures c.has_ytd-has_ytd.ensures c.loop-title.numbers c.loop-title.auto.numbers in
-    omega (arith, part_length t, t.few)
-
-pub returns-in_err-line : goal.returns-in_err-line
-returns-in_err-line g c =
-    let t = next_title (g.S.ColumnScheme.layout c.args.scheme.now) (g.met.S.ColumnScheme.sound c.args.scheme.now) c.args.titles.now c.args.numbers.now c.args.ytd.now c.requires c.loop-title.title (omega arith) c.columns-columns.ensures c.has_ytd-has_ytd.ensures c.loop-title.numbers c.loop-title.auto.numbers in
-    let p = err_from_is_err_and c.from_residual.result c.from_residual.ensures.1 in
-    rw (p.1, p.2) (fill_stop t c.args.platform.now (place_of c.loop-title.cells) c.loop-title.titles c.loop-title.ytd _ c.in_err-line.ensures ∙ c.loop-title.invariant.1)
-
-pub put_year-requires : goal.put_year-requires
-put_year-requires g c shown =
-    let has = has_room (g.S.ColumnScheme.layout c.args.scheme.now) c.args.titles.now c.args.numbers.now c.args.ytd.now c.requires in
-    omega (arith, has.ytd (sym c.has_ytd-has_ytd.ensures ∙ shown))
-
-pub bounds-titles-title : goal.bounds-titles-title
-bounds-titles-title g c =
-    let has = has_room (g.S.ColumnScheme.layout c.args.scheme.now) c.args.titles.now c.args.numbers.now c.args.ytd.now c.requires in
-    omega arith
-
-pub returns-then-is_done : goal.returns-then-is_done
-returns-then-is_done g c =
-    let t = next_title (g.S.ColumnScheme.layout c.args.scheme.now) (g.met.S.ColumnScheme.sound c.args.scheme.now) c.args.titles.now c.args.numbers.now c.args.ytd.now c.requires c.loop-title.title (omega arith) c.columns-columns.ensures c.has_ytd-has_ytd.ensures c.loop-title.numbers c.loop-title.auto.numbers in
-    fill_last t c.args.platform.now (place_of c.loop-title.cells) c.loop-title.titles c.loop-title.ytd c.read_title.new.row c.put_year.new.table c.in_ok-line.line (place_of c.read_title.new.cells) c.read_title.auto.row c.put_year.ensures c.in_ok-line.ensures c.if-is_done.ensures
+pub returns-then-is_done-clause-filled : goal.returns-then-is_done-clause-filled
+returns-then-is_done-clause-filled g c =
+    let l = g.S.ColumnScheme.layout c.args.scheme.now in
+    let p = place_of c.loop-title.cells in
+    let q = place_of c.read_title.new.cells in
+    let n = c.loop-title.title in
+    let k = c.columns-columns.result in
+    let inside = within l (held_by c.args.tables.now) c.requires n k c.loop-title-test.true c.columns-columns.ensures in
+    let room : n * k + k ≤ length c.loop-title.tables.numbers.now = omega (arith, inside, c.loop-title.invariant.0.wide) in
+    let part = part_length n k c.loop-title.tables.numbers.now room in
+    let row = row_with c.read_title.new.row c.in_ok-line.line in
+    let read = same_row l c.args.platform.now p (Ok (row, q)) c.has_ytd-ytd.ensures (part ∙ c.columns-columns.ensures) c.in_ok-line.ensures.row in
+    let one = one_more l n k c.columns-columns.ensures c.loop-title.tables c.put.new.self c.read_title.new.row c.in_ok-line.line (c.read_title.auto.row ∙ part) (c.in_ok-line.ensures.year ∙ c.has_ytd-ytd.ensures) c.put.ensures.titles c.put.ensures.numbers c.put.ensures.ytd in
+    ap Ok one
+    ∙ sym (titles_last (filled_row l) l c.args.platform.now n c.loop-title-test.true p (record { count = n; tables = held_by c.loop-title.tables }) row q read (sym c.if-is_done.ensures))
     ∙ c.loop-title.invariant.1
 
 pub loop-title-preserved : goal.loop-title-preserved
 loop-title-preserved g c =
-    let t = next_title (g.S.ColumnScheme.layout c.args.scheme.now) (g.met.S.ColumnScheme.sound c.args.scheme.now) c.args.titles.now c.args.numbers.now c.args.ytd.now c.requires c.loop-title.title (omega arith) c.columns-columns.ensures c.has_ytd-has_ytd.ensures c.loop-title.numbers c.loop-title.auto.numbers in (
-      omega arith,
-      fill_more t c.args.platform.now (place_of c.loop-title.cells) c.loop-title.titles c.loop-title.ytd c.read_title.new.row c.put_year.new.table c.in_ok-line.line (place_of c.read_title.new.cells) c.read_title.auto.row c.put_year.ensures c.in_ok-line.ensures c.if-is_done.ensures
+    let l = g.S.ColumnScheme.layout c.args.scheme.now in
+    let p = place_of c.loop-title.cells in
+    let q = place_of c.read_title.new.cells in
+    let n = c.loop-title.title in
+    let k = c.columns-columns.result in
+    let inside = within l (held_by c.args.tables.now) c.requires n k c.loop-title-test.true c.columns-columns.ensures in
+    let room : n * k + k ≤ length c.loop-title.tables.numbers.now = omega (arith, inside, c.loop-title.invariant.0.wide) in
+    let part = part_length n k c.loop-title.tables.numbers.now room in
+    let row = row_with c.read_title.new.row c.in_ok-line.line in
+    let read = same_row l c.args.platform.now p (Ok (row, q)) c.has_ytd-ytd.ensures (part ∙ c.columns-columns.ensures) c.in_ok-line.ensures.row in
+    let one = one_more l n k c.columns-columns.ensures c.loop-title.tables c.put.new.self c.read_title.new.row c.in_ok-line.line (c.read_title.auto.row ∙ part) (c.in_ok-line.ensures.year ∙ c.has_ytd-ytd.ensures) c.put.ensures.titles c.put.ensures.numbers c.put.ensures.ytd in (
+      search rules,
+      ap (over (filled_row l) (512 - (n + 1)) l c.args.platform.now q) one
+          ∙ sym (titles_more (filled_row l) l c.args.platform.now n c.loop-title-test.true p (record { count = n; tables = held_by c.loop-title.tables }) row q read (sym c.if-is_done.ensures))
           ∙ c.loop-title.invariant.1,
     )
+
+pub returns-clause-filled : goal.returns-clause-filled
+returns-clause-filled g c =
+    let l = g.S.ColumnScheme.layout c.args.scheme.now in
+    ap Err c.fault.ensures
+    ∙ sym (titles_full (filled_row l) l c.args.platform.now c.loop-title.title (place_of c.loop-title.cells) (record { count = c.loop-title.title; tables = held_by c.loop-title.tables }) c.loop-title-test.false)
+    ∙ c.loop-title.invariant.1

@@ -2,7 +2,7 @@ use Rattle.std.proofs.Common.{◌≡◌, ◌+◌, ◌<◌, not, ◌&&◌, eqb, [
 use Rattle.std.proofs.lemmas.Result.{err_from_is_err_and}
 use Rattle.cells.specs.Cells.{place_of}
 use Rattle.cells.specs.Judged.{word_at}
-use Rattle.readback.proofs.Headings.{heading_read, heading_wrong, headings_read}
+use Rattle.readback.proofs.Headings.{heading_read, heading_wrong}
 use Rattle.readback.proofs.top.read_headings.Goals as goal
 
 pub loop-column-preserved : goal.loop-column-preserved
@@ -23,6 +23,3 @@ returns-in_err-read_heading g c =
     rw (p.1, p.2)
     (heading_wrong hs c.loop-column.column h c.args.ytd (place_of c.loop-column.cells) _ (c.in_err-read_heading.ensures ∙ ap (λ b. word_at (get_or hs c.loop-column.column []) b (place_of c.loop-column.cells)) (sym f))
     ∙ c.loop-column.invariant)
-
-pub returns : goal.returns
-returns g c = headings_read (g.S.ColumnScheme.layout c.args.scheme.now).headings c.loop-column.column c.args.ytd (place_of c.loop-column.cells) (search rules) ∙ c.loop-column.invariant

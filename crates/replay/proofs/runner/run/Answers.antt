@@ -1,4 +1,4 @@
-use Rattle.std.proofs.Common.{◌≡◌, ℕ, ◌<◌, [], ◌++◌, refl, ap, ◌∙◌, arith}
+use Rattle.std.proofs.Common.{◌≡◌, [], ◌++◌, refl, ap, ◌∙◌}
 use Rattle.runs.specs.Checks.{judge_tables}
 use Rattle.runs.specs.Past.{granted, refused}
 use Rattle.std.proofs.lemmas.List.{append-nil}
@@ -6,18 +6,19 @@ use Rattle.runs.specs.Law.{Stands}
 use Rattle.runs.proofs.Laws.{stands_fits}
 use Rattle.ledger.specs.Answers.{number}
 use Rattle.ledger.specs.Views.{books, setup}
+use Rattle.ledger.proofs.Calls.{few_presented}
 use Rattle.replay.proofs.runner.run.Goals as goal
 
 -- the ledger still stands, so that its tables fit
 pub unreachable-requires : goal.unreachable-requires
 unreachable-requires g c =
     let o = c.lead-ledger.result in
-    let u = setup g.R.ReaderRule.relates g.S.ColumnScheme.place g.S.ColumnScheme.layout o.terms in
+    let u = setup g.R.ReaderRule g.S.ColumnScheme o.terms in
     let stood = c.lead-ledger.ensures.law [] c.in_ok-ledger.ensures.begins.6 in
-    let few : o.tallies.presented < 4294967296 = let l = o.limited in let m = o.terms.few in omega arith in
+    let few = few_presented o in
     let fit = stands_fits u (g.met.S.ColumnScheme.below o.terms.scheme) (stood.0 ++ []) (books o c.lead-ledger.new.waiting c.lead-ledger.new.cells) stood.2 few refl in
     let clash : refused (number c.in-Err.field-0.refusal) ≡ granted = c.in-Err.ensures.answer ∙ ap judge_tables fit in
-    let z : ◌≡◌ {A = ℕ} 0 1 = cc in omega arith
+    cc
 
 pub returns : goal.returns
 returns g c =
@@ -27,7 +28,7 @@ returns g c =
     let ended = c.in-Ok.ensures in
     let same = ended.holds.0 ∙ led.terms in
     let stood = led.law [] begun.begins.6 in
-    let all : Stands (setup g.R.ReaderRule.relates g.S.ColumnScheme.place g.S.ColumnScheme.layout o.terms) stood.0 (books o c.lead-ledger.new.waiting c.lead-ledger.new.cells) = rw append-nil at stood.2 in
+    let all : Stands (setup g.R.ReaderRule g.S.ColumnScheme o.terms) stood.0 (books o c.lead-ledger.new.waiting c.lead-ledger.new.cells) = rw append-nil at stood.2 in
     record {
       opened = begun.granted;
       steps = led.steps;

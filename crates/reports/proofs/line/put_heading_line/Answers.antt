@@ -9,5 +9,5 @@ use Rattle.reports.proofs.line.put_heading_line.Goals as goal
 pub returns : goal.returns
 returns g c =
     let l = g.S.ColumnScheme.layout c.args.scheme.now in
-    line_put _ _ _ _ _ [] (codes "Publisher" ∷ codes "Platform" ∷ codes "Print ISSN" ∷ codes "Online ISSN" ∷ []) l.headings (ytd_headings l.ytd) _ _ _ _ _ c.put_label-at.ensures c.put_headings-at.ensures
-    (subst (λ b. Put c.put_headings-at.new.out c.put_headings-at.result (flat_map next_cell (ytd_headings b)) c.put_ytd_headings-at.new.out c.put_ytd_headings-at.result) c.has_ytd.ensures c.put_ytd_headings-at.ensures) c.put_line_end.ensures
+    line_put _ _ _ _ _ [] (codes "Publisher" ∷ codes "Platform" ∷ codes "Print ISSN" ∷ codes "Online ISSN" ∷ []) l.headings (ytd_headings l.ytd) c.put_label.ensures c.put_headings.ensures
+    (subst (λ b. Put c.put_headings.new.page (flat_map next_cell (ytd_headings b)) c.put_ytd_headings.new.page) c.has_ytd.ensures c.put_ytd_headings.ensures) c.put_line_end.ensures

@@ -6,5 +6,4 @@ use Rattle.reports.specs.Written.{next_cell}
 use Rattle.reports.proofs.line.put_headings.Given as goal
 
 abbrev pub invariant-loop-column : goal.invariant-loop-column
-invariant-loop-column g l =
-    Put l.initial.out l.at (flat_map next_cell (take l.column (g.S.ColumnScheme.layout l.scheme).headings)) l.out l.end
+invariant-loop-column g l = Put l.initial.page (flat_map next_cell (take l.column (g.S.ColumnScheme.layout l.scheme).headings)) l.page

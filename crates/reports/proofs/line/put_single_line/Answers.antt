@@ -4,4 +4,4 @@ use Rattle.reports.proofs.Steps.{next}
 use Rattle.reports.proofs.line.put_single_line.Goals as goal
 
 pub returns : goal.returns
-returns c = next _ _ _ _ line_end _ _ _ c.put_bytes-at.ensures c.put_line_end.ensures
+returns c = next _ _ _ _ line_end c.put_bytes.ensures c.put_line_end.ensures

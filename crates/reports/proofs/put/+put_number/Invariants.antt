@@ -1,5 +1,0 @@
--- A tenth of a number is less.
-use Rattle.reports.proofs.put.+put_number.Given as goal
-
-abbrev pub decreases-put_number : goal.decreases-put_number
-decreases-put_number l = l.n
