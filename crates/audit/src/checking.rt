@@ -17,6 +17,7 @@ pub(crate) struct Found {
 }
 
 /// The sum of the numbers of a report.
+// One chain: as a public function it would have to ask for the bound, and no public function asks for anything.
 fn sum_of(numbers: &[u32]) -> u64
     requires { length numbers.now ≤ 6144 }
     ensures { result ≡ sum numbers.now }

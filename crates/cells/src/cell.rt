@@ -16,6 +16,7 @@ pub struct Spot {
 }
 
 /// A cell of a file, with its place.
+// The form is fixed: blank, text and number, each with its part of the file and its place.
 #[derive(Clone, Copy, Debug, PartialEq, Eq)]
 pub enum Cell<'a> {
     Blank {

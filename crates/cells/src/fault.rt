@@ -28,7 +28,8 @@ pub enum Cause {
 }
 
 /// The cell of a line that is at fault, and what is wrong with it.
-// Line and column are fields of each type that tells a place, since callers read and write them there by name.
+// Line and column are fields of each type that tells a place: callers read and write them by name, and a struct of the
+// two would put one more name into each clause.
 #[derive(Clone, Copy, Debug, PartialEq, Eq)]
 pub struct LineFault {
     pub line: usize,

@@ -9,8 +9,6 @@ mod fault;
 mod judge;
 mod number;
 mod reader;
-#[cfg(test)]
-mod tests;
 mod walk;
 
 pub use cell::{Cell, Spot};

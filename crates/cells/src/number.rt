@@ -5,9 +5,11 @@ ghost use Rattle.cells.specs.Numbers.{number_of, plain};
 use std::str::from_utf8;
 
 /// The highest number that is shown.
+// As in `reports`, whose numbers are sums of 64 bits.
 const HIGHEST: u32 = 1_000_000_000;
 
 /// The number that the bytes show, if it is digits without a leading zero and at most 1,000,000,000.
+// A function and no `TryFrom`: bytes and numbers are no types of this crate.
 pub(crate) fn read_number(bytes: &[u8]) -> Option<u32>
     ensures { result ≡ number_of bytes.now }
 {

@@ -2,8 +2,8 @@
 ghost use Rattle.std.specs.Prelude.{◌+◌, ◌≤◌, length};
 
 /// A walk over the lent bytes of a file, cell by cell. It remembers its line and its column.
-// The file stays whole beside the offset, so that a walk is a place in what was lent. Contracts say which place by
-// `place_of`, those of the crates above too.
+// The form is fixed: the lent bytes with offset, line and column. Contracts say by `place_of` where a walk stands, those of
+// the crates above too.
 #[derive(Drop)]
 pub struct CellReader<'a> {
     pub(crate) file: &'a [u8],

@@ -9,6 +9,7 @@ use crate::fault::{Cause, CellFault, LineFault};
 use crate::reader::CellReader;
 
 /// How a cell ends: behind how many bytes, and whether its line ends with it.
+// `last` is what `Spot` says of the cell.
 #[derive(Clone, Copy, Debug, PartialEq, Eq)]
 struct CellEnd {
     length: usize,

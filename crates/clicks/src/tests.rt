@@ -21,13 +21,9 @@ fn click(format: u8, time: u32) -> Request {
         time,
         status: 200,
         format,
-        journal: 0,
         article: 5,
-        published: 0,
         address: 1,
-        session_cookie: 0,
-        user_cookie: 0,
-        user_name: 0,
+        ..Request::default()
     }
 }
 

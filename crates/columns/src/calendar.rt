@@ -3,6 +3,8 @@ ghost use Rattle.std.specs.Prelude.{◌≡◌, ◌+◌, ◌%◌, ◌<◌, ◌≤
 ghost use Rattle.std.specs.List.{slice_get};
 ghost use Rattle.columns.specs.Calendar.{days_in, days_in_year, days_of_months, days_of_years, digits, is_date, MonthIn, MonthOf, names};
 
+use records::LAST_SECOND;
+
 /// The months' lengths in a common year.
 const LENGTHS: [u8; 12] = [31, 28, 31, 30, 31, 30, 31, 31, 30, 31, 30, 31];
 
@@ -15,9 +17,6 @@ pub(crate) const NAMES: [[u8; 3]; 12] = [
 /// The seconds of a day.
 const DAY: u32 = 86_400;
 
-/// The last second of 2099.
-const LAST_SECOND: u32 = 3_155_759_999;
-
 /// A month of a year.
 #[derive(Clone, Copy, Debug, PartialEq, Eq)]
 pub struct Month {
@@ -29,6 +28,7 @@ pub struct Month {
 /// The days of a month that counts from 0, and 0 past December.
 ///
 /// Every fourth year is taken for a leap year, which is right from 1901 to 2099.
+// 0 and no `Option` past December, as callers have it: of such a month no day is a real one.
 pub fn days_in(year: u16, month: usize) -> u8
     ensures { result ≡ days_in year month }
 {

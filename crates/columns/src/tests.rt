@@ -69,13 +69,10 @@ fn request(time: u32, published: u16) -> Request {
         time,
         status: 200,
         format: 1,
-        journal: 0,
         article: 5,
         published,
         address: 1,
-        session_cookie: 0,
-        user_cookie: 0,
-        user_name: 0,
+        ..Request::default()
     }
 }
 

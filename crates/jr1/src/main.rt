@@ -26,11 +26,8 @@ fn request(journal: u16, format: u8, time: u32) -> Request {
         format,
         journal,
         article: 5,
-        published: 0,
         address: 1,
-        session_cookie: 0,
-        user_cookie: 0,
-        user_name: 0,
+        ..Request::default()
     }
 }
 
@@ -99,7 +96,7 @@ fn perform(
     let mut titles = [Title::default(); 2];
     read_list(&list, &mut titles)?;
     let mut source = RequestTable::new(&[]);
-    let Ok(audit) = run(
+    let Audit { ledger, written } = run(
         BestRule,
         scheme,
         1_000,
@@ -110,10 +107,8 @@ fn perform(
         &titles,
         &HEADER,
         out,
-    ) else {
-        return Err(anyhow!("the ledger was not opened"));
-    };
-    let Audit { ledger, written } = audit;
+    )
+    .map_err(|unopened| unopened.refusal)?;
     let tallies = ledger.tallies();
     let _ = ledger.close();
     Ok(Outcome {
@@ -123,6 +118,7 @@ fn perform(
 }
 
 /// What was replied to an offer.
+// A function: a reply is an `Option` of a `Result`, and they have their own printing.
 fn words(reply: Option<Result<Reply, Refusal>>) -> &'static str {
     match reply {
         Some(Ok(Reply::Granted)) => "accepted",

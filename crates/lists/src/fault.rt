@@ -147,6 +147,7 @@ impl FieldFault {
     pub fn place(&self) -> Option<usize>
         ensures { result ≡ field_fault_place self.now }
     {
+        // Two arms that read alike, since the faults are of two types: a trait for this one call would be longer.
         match self {
             FieldFault::Text(fault) => fault.place(),
             FieldFault::Issn(fault) => fault.place(),
@@ -179,6 +180,7 @@ impl ListCause {
 
 impl ListFault {
     /// The fault of the whole group of the entry `number`, which stands at `place`.
+    // Not of a `Group`: it is told of blocks that are not whole, or are one too many.
     pub(crate) fn of_group(number: usize, place: usize, cause: ListCause) -> ListFault
         ensures { result ≡ group_fault number place cause }
     {

@@ -40,6 +40,7 @@ fn read_titles<'a>(list: &'a [u8], table: &mut [Title<'a>]) -> Result<usize, Lis
 /// titles exactly where its bytes spell them and the table has room for them; a list that is written of right titles is
 /// one. Refusal 10 says that it spells no titles, and tells the fault behind the groups that do spell one. Refusal 11
 /// says that it spells more titles than the table has entries.
+// The table is the caller's, and the count is the answer: there is no heap to grow one on.
 pub fn read_list<'a>(list: &'a [u8], table: &mut [Title<'a>]) -> Result<usize, ListRefusal>
     ensures read { result ≡ answer (length table.old) (read_list list.now) }
     ensures table { TableAfter result (read_list list.now) table.old table.new }

@@ -6,6 +6,7 @@ use records::{AddressRule, Request};
 use std::fmt;
 
 /// More items than a log of this program has.
+// An array and no `Vec`: a log's items are printed beside their fates one by one, and an empty place ends them.
 const ITEMS: usize = 16;
 
 /// What became of an item that a ledger drew.
@@ -25,19 +26,6 @@ impl fmt::Display for Fate {
         })
     }
 }
-
-const NO_REQUEST: Request = Request {
-    time: 0,
-    status: 0,
-    format: 0,
-    journal: 0,
-    article: 0,
-    published: 0,
-    address: 0,
-    session_cookie: 0,
-    user_cookie: 0,
-    user_name: 0,
-};
 
 /// The fate of the item that was drawn between these tallies; none where no item was.
 fn fate_between(before: Tallies, after: Tallies) -> Option<Fate> {
@@ -71,7 +59,7 @@ fn draw_singly(
 
 /// What becomes of the items of a log in a ledger for one title and January 2009.
 pub(crate) fn fates(bytes: &[u8]) -> Option<[Option<Fate>; ITEMS]> {
-    let mut waiting = [NO_REQUEST; 4];
+    let mut waiting = [Request::default(); 4];
     let mut cells = [0; 2];
     let scheme = MonthScheme::new(2009, 1).ok()?;
     let mut ledger = Open::new(AddressRule, scheme, 1, 1_000, &waiting, &mut cells).ok()?;

@@ -142,9 +142,7 @@ fn print_fate(rt: &HostRuntime, fate: Option<Fate>) -> anyhow::Result<()> {
 
 /// The items of a log with their fates, and once more that there are no others.
 fn print_items(rt: &HostRuntime, bytes: &[u8]) -> anyhow::Result<()> {
-    let Some(fates) = fates(bytes) else {
-        return Err(anyhow!("no ledger was opened"));
-    };
+    let fates = fates(bytes).ok_or_else(|| anyhow!("no ledger was opened"))?;
     let mut log = Log::new(bytes);
     for fate in &fates {
         match log.take() {

@@ -15,6 +15,7 @@ use columns::ColumnScheme;
 use reports::Header;
 
 /// Fills the tables with the titles' lines to the end of the file, and returns how many there are.
+// `roomy` is of the tables under a scheme: a ghost field of theirs would have to hold the scheme.
 fn fill_titles<'a, S: ColumnScheme>(
     cells: &mut CellReader<'a>,
     scheme: &S,
@@ -50,6 +51,7 @@ pub(crate) fn fill_file<'a, S: ColumnScheme>(
     ensures same { SameLent tables.old tables.new }
     ensures filled { out_filled (held_by tables.new) result ≡ filled_at (S.ColumnScheme.layout scheme.now) file.now (held_by tables.old) }
 {
+    // As long as the longest line: there is no heap.
     let mut figures = [0u32; 15];
     let figures = &mut figures[..figure_count(scheme)];
     let mut cells = CellReader::new(file);

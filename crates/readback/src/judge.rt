@@ -73,6 +73,7 @@ fn check_figures(figures: &[u32], sums: &[u64]) -> Result<(), LineFault>
 }
 
 /// Judges the publisher and the numbers of line 6 by what the titles' lines come to, under so many columns.
+// The bound comes from the scheme's `columns`, whose contract has it; no type holds the number.
 fn check_totals(
     label: &TotalLabel<'_>,
     figures: &[u32],
@@ -94,6 +95,7 @@ pub(crate) fn judge_file<S: ColumnScheme>(scheme: &S, file: &[u8]) -> Result<(),
     ensures { result ≡ map_both (λ _. tt) (λ e. e) (read_file (S.ColumnScheme.layout scheme.now) file.now) }
 {
     let columns = scheme.columns();
+    // As long as the longest line, of which a scheme's columns take the front: there is no heap.
     let mut figures = [0u32; 15];
     let figures = &mut figures[..figure_count(scheme)];
     let mut row = [0u32; 12];

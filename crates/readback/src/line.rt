@@ -33,6 +33,7 @@ pub(crate) fn read_numbers(
 }
 
 /// The sum of a row of numbers.
+// One chain: as a public function it would have to ask for the bound, and no public function asks for anything.
 fn sum_of(numbers: &[u32]) -> u64
     requires { length numbers.now ≤ 12 }
     ensures { result ≡ sum numbers.now }

@@ -10,7 +10,8 @@ use columns::ColumnScheme;
 use titles::Title;
 
 /// Tables with room for 512 titles, into which a report is read.
-// Three slices and no table of rows: the memory is lent, and a title has as many numbers as the scheme has columns.
+// Three slices and no table of rows: the memory is lent, and a title has as many numbers as the scheme has columns. The
+// year to date is a row of numbers as well, as callers have it.
 #[derive(Drop)]
 pub struct LentTables<'t, 'a> {
     /// The titles.

@@ -40,7 +40,7 @@ impl Sums {
     ghost use Rattle.readback.specs.Passes.{added, sums_of, usage_with};
 
     /// Adds the numbers of a title.
-    // `few` comes down from the scheme: the numbers are a part of lent memory, whose type says nothing of its length.
+    // `few` comes down from the scheme: the numbers are a slice, whose type says nothing of its length.
     fn add(&mut self, numbers: &[u32], year: Option<Formats<u32>>)
         requires few { length numbers.now ≤ 12 }
         requires low { Low (2 ^ 62) self.old }

@@ -86,10 +86,7 @@ fn read_heading<S: ColumnScheme>(
     requires { column < length (S.ColumnScheme.layout scheme.now).headings }
     ensures { seen (λ x. x) result (place_of cells.new) ≡ word_at (slice_index_or (S.ColumnScheme.layout scheme.now).headings column []) last (place_of cells.old) }
 {
-    match scheme.heading(column) {
-        Some(heading) => word_cell(cells, heading, last),
-        None => unreachable(),
-    }
+    word_cell(cells, scheme.heading(column).unwrap(), last)
 }
 
 /// Reads the headings of the columns, behind which those of the year to date may follow.

@@ -8,6 +8,7 @@ use records::Item;
 
 /// A call on an open ledger. `lent` says whether it is lent the ledger's own tables, or none, in
 /// which case it is refused.
+// `lent` is a `bool`, since a step does not hold the tables: they are lent to the whole run.
 #[derive(Clone, Copy, Debug, PartialEq, Eq)]
 pub enum Step {
     Offer { item: Item, lent: bool },

@@ -26,6 +26,7 @@ fn make<R: ReaderRule, S: ColumnScheme, Src: Source>(
     ensures none { (p : Past) (w : List Request) (d : List ℕ) → fits (setup R.ReaderRule S.ColumnScheme ledger.terms) (books ledger waiting.old cells.old) ≡ false → Stands (setup R.ReaderRule S.ColumnScheme ledger.terms) p (books ledger w d) → (c : Call) × Made (with_lent false step.now) result.1 c (Src.Source.items source.old) (Src.Source.items source.new) × Stands (setup R.ReaderRule S.ColumnScheme result.0.terms) (c ∷ p) (books result.0 w d) }
 {
     let mut ledger = ledger;
+    // By the kind of the step: steps are data that the caller's entries hold, and closures in a row would need a heap.
     match step {
         Step::Offer { item, .. } => {
             let reply = ledger.offer(waiting, cells, item).map(Reply::from);
@@ -41,6 +42,7 @@ fn make<R: ReaderRule, S: ColumnScheme, Src: Source>(
                 .map(|()| Reply::Granted);
             (ledger, reply)
         }
+        // Matched, not unwrapped: the ledger in an `Ok` cannot be let go.
         Step::Settle => match ledger.settle(&mut [], &mut []) {
             Ok(_) => unreachable(),
             Err(Unsettled { ledger, refusal }) => (ledger, Err(refusal)),
@@ -87,6 +89,7 @@ pub fn lead<R: ReaderRule, S: ColumnScheme, Src: Source>(
 
 /// Opens a ledger, performs the steps of all entries in their order, enters the replies, and
 /// settles the ledger.
+// What opens a ledger comes singly, as to `Open::new`: a struct of it would be made for this call and taken apart in it.
 pub fn run<R: ReaderRule, S: ColumnScheme, Src: Source>(
     rule: R,
     scheme: S,

@@ -40,6 +40,7 @@ pub(crate) const BY_YEAR: [&[u8]; 9] = [
 
 /// A damaged copy of a report: what is wrong, the line, counted from 0, that other bytes replace, these bytes, and whether
 /// the lines behind it follow.
+// A tuple: forty of them in a row read as a table, and each is taken apart in one place.
 pub(crate) type Damage = (&'static str, usize, &'static [u8], bool);
 
 /// Damages of the report by month.

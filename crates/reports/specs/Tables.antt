@@ -5,6 +5,7 @@ use Rattle.titles.specs.Titles.{Entry, issn_bytes}
 use Rattle.reports.specs.Reports.{Head, Line, Report, Usage}
 
 -- the requests of title t in column c, of n columns, by format
+-- by name, and not by a format, since other crates cite each of the two
 abbrev pub html_at : List ℕ → ℕ → ℕ → ℕ → ℕ
 html_at cells n t c = slice_index cells ((t * n + c) * 2)
 

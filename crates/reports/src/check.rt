@@ -31,6 +31,7 @@ pub(crate) fn check_titles(titles: &[Title<'_>]) -> Result<(), WriteRefusal>
     ensures { result_err result ≡ titles_ground 0 (map entry_of titles.now) }
 {
     for (index, title) in titles.iter().enumerate() {
+        // No `map_err`: the closure would take as many lines, for one more name.
         if let Err(fault) = title.check() {
             return Err(WriteRefusal::Title {
                 title: index,

@@ -2,6 +2,7 @@
 ghost use Rattle.std.specs.Prelude.{◌≡◌, ◌+◌, ◌*◌, ◌^◌, ◌≤◌, take, sum};
 
 /// The highest number that may be shown.
+// As in `cells`, whose numbers have 32 bits.
 const HIGHEST: u64 = 1_000_000_000;
 
 /// A number to each format.
@@ -40,6 +41,7 @@ impl Counts {
         ensures { (html pdf : ℕ → ℕ) → Gives (F.post formats) columns html pdf → usage_of result ≡ usage_by html pdf columns }
     {
         let mut counts = Counts::none();
+        // By number: the closure is asked for each column.
         for column in 0..columns {
             counts.add(formats(column));
         }

@@ -1,6 +1,6 @@
 //! What a report says besides its titles and their counts.
 
-/// A day, month and day of the month counted from 1.
+/// A day. Its month and its day of the month count from 1.
 #[derive(Clone, Copy, Debug, PartialEq, Eq)]
 pub struct Date {
     pub year: u16,

@@ -6,6 +6,7 @@ use crate::counts::{Counts, Formats};
 use titles::Title;
 
 /// A count table with the titles that it counts for: two cells, HTML and PDF, to each title and column.
+// The cells are lent, and go by the titles' numbers, as the ledger writes them.
 #[derive(Clone, Copy)]
 pub(crate) struct Table<'c, 'a> {
     pub titles: &'a [Title<'a>],
@@ -39,7 +40,7 @@ impl Table<'_, '_> {
         ensures formats { result ≡ record { html = html_sum self.now.cells.now self.now.columns (length self.now.titles.now) column; pdf = pdf_sum self.now.cells.now self.now.columns (length self.now.titles.now) column } }
         ensures low { (result.html ≤ 2 ^ 41) × (result.pdf ≤ 2 ^ 41) }
     {
-        // By the titles' numbers, which the cells go by.
+        // The form is fixed: a loop over the title slice with index, since the cells go by the titles' numbers.
         let mut sum = Formats { html: 0, pdf: 0 };
         for (title, _) in self.titles.iter().enumerate() {
             let formats = self.title_formats(title, column);

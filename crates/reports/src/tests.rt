@@ -1,7 +1,7 @@
 //! Reports of small ledgers.
 use crate::{Date, Header, WriteRefusal, write};
 use columns::{ColumnScheme, MonthScheme, YearScheme};
-use ledger::{Open, Settled, Unopened, Unsettled};
+use ledger::{Open, Settled, Unsettled};
 use records::{BestRule, Request};
 use std::test::Fail;
 use titles::{Title, read_issn};
@@ -50,11 +50,8 @@ fn request(journal: u16, format: u8, time: u32) -> Request {
         format,
         journal,
         article: 5,
-        published: 0,
         address: 1,
-        session_cookie: 0,
-        user_cookie: 0,
-        user_name: 0,
+        ..Request::default()
     }
 }
 
@@ -65,17 +62,7 @@ fn settled<S: ColumnScheme + Drop>(
     waiting: &mut [Request],
     cells: &mut [u32],
 ) -> Option<Settled<BestRule, S>> {
-    let mut ledger = match Open::new(BestRule, scheme, titles, 100, waiting, cells) {
-        Ok(ledger) => ledger,
-        Err(unopened) => {
-            let Unopened {
-                rule: _,
-                scheme: _,
-                refusal: _,
-            } = unopened;
-            return None;
-        }
-    };
+    let mut ledger = Open::new(BestRule, scheme, titles, 100, waiting, cells).ok()?;
     for (journal, format, time) in REQUESTS {
         let item = Ok(request(journal, format, time));
         let _ = ledger.offer(waiting, cells, &item);
@@ -122,13 +109,9 @@ fn header(criteria: &'static [u8], platform: &'static [u8], day: u8) -> Header<'
 
 #[test]
 fn two_titles_by_month(rt: HostRuntime) -> Result<(), Fail> {
-    let Ok(scheme) = MonthScheme::new(2009, 2) else {
-        return Err(Fail::new("a scheme"));
-    };
+    let scheme = MonthScheme::new(2009, 2)?;
     let mut cells = [0; 8];
-    let Some(ledger) = settled(scheme, 2, &mut [request(0, 1, 0); 4], &mut cells) else {
-        return Err(Fail::new("a ledger"));
-    };
+    let ledger = settled(scheme, 2, &mut [Request::default(); 4], &mut cells).ok_or("a ledger")?;
     let mut out = [b'.'; 600];
     let written = write(
         &ledger,
@@ -147,12 +130,8 @@ fn two_titles_by_month(rt: HostRuntime) -> Result<(), Fail> {
 
 #[test]
 fn one_title_by_year(rt: HostRuntime) -> Result<(), Fail> {
-    let Ok(scheme) = YearScheme::new(2009, 2005) else {
-        return Err(Fail::new("a scheme"));
-    };
-    let Some(ledger) = settled(scheme, 1, &mut [request(0, 1, 0); 4], &mut [0; 12]) else {
-        return Err(Fail::new("a ledger"));
-    };
+    let scheme = YearScheme::new(2009, 2005)?;
+    let ledger = settled(scheme, 1, &mut [Request::default(); 4], &mut [0; 12]).ok_or("a ledger")?;
     let cells = [600_000_000, 400_000_000, 3, 7, 0, 0, 0, 0, 0, 0, 7, 0];
     let mut out = [b'.'; 600];
     let all = titles(b"Lock Press");
@@ -173,14 +152,12 @@ fn one_title_by_year(rt: HostRuntime) -> Result<(), Fail> {
 /// A settled ledger of two titles and two months.
 fn two_months() -> Option<Settled<BestRule, MonthScheme>> {
     let scheme = MonthScheme::new(2009, 2).ok()?;
-    settled(scheme, 2, &mut [request(0, 1, 0); 4], &mut [0; 8])
+    settled(scheme, 2, &mut [Request::default(); 4], &mut [0; 8])
 }
 
 #[test]
 fn header_first(rt: HostRuntime) -> Result<(), Fail> {
-    let Some(ledger) = two_months() else {
-        return Err(Fail::new("a ledger"));
-    };
+    let ledger = two_months().ok_or("a ledger")?;
     let mut out = [b'.'; 9];
     let criteria = write(
         &ledger,
@@ -221,9 +198,7 @@ fn header_first(rt: HostRuntime) -> Result<(), Fail> {
 
 #[test]
 fn then_titles_and_table(rt: HostRuntime) -> Result<(), Fail> {
-    let Some(ledger) = two_months() else {
-        return Err(Fail::new("a ledger"));
-    };
+    let ledger = two_months().ok_or("a ledger")?;
     let high = [0, 0, 0, 0, 500_000_000, 0, 0, 500_000_001];
     let header = header(b"Test College", b"Host", 31);
     let mut out = [b'.'; 9];

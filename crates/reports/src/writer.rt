@@ -37,12 +37,13 @@ pub fn write<'a, R, S: ColumnScheme>(
 {
     let counted = checked(ledger, cells, titles, header)?;
     let scheme = ledger.scheme();
-    let mut none = Page {
+    // Measured first, on a page of no bytes, so that a report that finds no room leaves the buffer as it was.
+    let mut empty = Page {
         out: &mut [],
         at: 0,
     };
-    put_report(&mut none, scheme, header, &counted);
-    if none.at > out.len() {
+    put_report(&mut empty, scheme, header, &counted);
+    if empty.at > out.len() {
         return Err(WriteRefusal::Buffer);
     }
     let mut page = Page { out, at: 0 };

@@ -12,19 +12,19 @@ returns-in_err-counted-clause-answer g c =
     let p = err_from_is_err_and c.from_residual.result c.from_residual.ensures.1 in
     p.1 ∙ ap Err p.2 ∙ answer_refused s _ _ c.in_err-counted.ensures
 
-pub returns-then-none-out-clause-answer : goal.returns-then-none-out-clause-answer
-returns-then-none-out-clause-answer g c =
+pub returns-then-empty-out-clause-answer : goal.returns-then-empty-out-clause-answer
+returns-then-empty-out-clause-answer g c =
     let s = subject_of g.S.ColumnScheme.layout c.args.ledger.now c.args.cells.now c.args.titles.now c.args.header.now in
     let room : length c.args.out.now < 2 ^ 63 = search rules in
     let text = text_is s _ _ (ap g.S.ColumnScheme.layout c.scheme-scheme.ensures) c.in_ok-counted.ensures.lines in
-    answer_short s _ _ c.in_ok-counted.ensures (too_long c.args.out.now (text_about s) _ _ _ c.put_report.ensures text refl room c.if-none-out.true)
+    answer_short s _ _ c.in_ok-counted.ensures (too_long c.args.out.now (text_about s) _ _ _ c.put_report.ensures text refl room c.if-empty-out.true)
 
 pub returns : goal.returns
 returns g c =
     let s = subject_of g.S.ColumnScheme.layout c.args.ledger.now c.args.cells.now c.args.titles.now c.args.header.now in
     let room : length c.args.out.now < 2 ^ 63 = search rules in
     let text = text_is s _ _ (ap g.S.ColumnScheme.layout c.scheme-scheme.ensures) c.in_ok-counted.ensures.lines in
-    let long = fits c.args.out.now (text_about s) _ _ _ c.put_report.ensures text refl room c.if-none-out.false in
+    let long = fits c.args.out.now (text_about s) _ _ _ c.put_report.ensures text refl room c.if-empty-out.false in
     let done = given (text_about s) _ _ _ c.put_report-2.ensures text refl room long in
     record {
       answer = ap Ok done.0 ∙ answer_given s _ _ c.in_ok-counted.ensures long;
