@@ -19,16 +19,6 @@ pub onward_ok : {A B E F : Type 0} (up : E → F) (r : Result A E) (g : A → Re
 onward_ok up (Ok x) g y p = (x, refl, p)
 onward_ok up (Err e) g y p = cc
 
--- the test was passed
-pub cond_ok : {B E : Type 0} (t : Bool) (r : Result B E) (e : E) (y : B) → cond t r (Err e) ≡ Ok y → (t ≡ true) × (r ≡ Ok y)
-cond_ok t r e y p = grind arith
-
 -- the same of what may be missing
 pub some_same : {A : Type 0} (x y : A) → Some x ≡ Some y → x ≡ y
 some_same x y p = cc
-
-pub cond_some : {A : Type 0} (t : Bool) (x y : A) → cond t (Some x) None ≡ Some y → (t ≡ true) × (x ≡ y)
-cond_some t x y p = grind arith
-
-pub some_if : {A : Type 0} (t : Bool) (x : A) → then_some t x ≡ cond t (Some x) None
-some_if t x = grind arith

@@ -23,7 +23,8 @@ abbrev pub field_fault_place : FieldFault → Option ℕ
 field_fault_place (Text fault) = text_fault_place fault
 field_fault_place (Issn fault) = issn_fault_place fault
 
--- the field that a cause is told of, where it lies at one with this tag: 0, unless the bytes of the field are at fault
+-- the field that a cause is told of, where it lies at one with this tag: 0, unless the field is missing or its bytes are at
+-- fault
 abbrev pub field_of : ListCause → ℕ → ℕ
 field_of NoGroup tag = 0
 field_of SurplusGroup tag = 0
@@ -33,8 +34,8 @@ field_of CutField tag = 0
 field_of (Field fault) tag = tag
 field_of MissingField tag = tag
 
--- the byte where a cause lies, when the field's tag stands at this place: the unfit byte, if one is, which stands
--- behind the tag and the two bytes of the length; else the tag
+-- the byte where a cause lies, when the field's tag stands at this place: the unfit byte, or the last sign of an ISSN with a
+-- wrong sum, which stands behind the tag and the two bytes of the length; else the tag
 abbrev pub byte_of : ListCause → ℕ → ℕ
 byte_of NoGroup place = place
 byte_of SurplusGroup place = place

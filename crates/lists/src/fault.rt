@@ -42,9 +42,11 @@ pub enum ListCause {
 pub struct ListFault {
     /// The number of the group, from 0.
     pub entry: usize,
-    /// The tag of the field; 0 where the fault is the whole group's. It is a number, since the refusal tells it as one.
+    /// The tag of the field that is missing or holds what it should not; 0 where the list or the group is built wrong. It is
+    /// a number, since the refusal tells it as one.
     pub field: u8,
-    /// The place in the list, from 0, of the first unfit byte, or of the tag of what is at fault.
+    /// The place in the list, from 0: of the first unfit byte, of the last sign of an ISSN with a wrong sum, or else of the tag
+    /// of what is at fault.
     pub byte: usize,
     pub cause: ListCause,
 }

@@ -49,28 +49,3 @@ against_front c (n ∷ figures) (m ∷ sums) = ap (λ r. cond (eqb n m) r (Err (
 pub against_shown : (figures sums shown : List ℕ) (n : ℕ) → length figures ≡ n → take n sums ≡ shown → sums_against 6 figures sums ≡ sums_against 6 figures shown
 against_shown figures sums shown n many e =
     against_front 6 figures sums ∙ ap (λ k. sums_against 6 figures (take k sums)) many ∙ ap (sums_against 6 figures) e
-
--- three numbers set behind the first n
-three_set : (front rest : List ℕ) (n t h p : ℕ) → length front ≡ n → 3 ≤ length rest → set (set (set (front ++ rest) n t) (n + 1) h) (n + 2) p ≡ front ++ (t ∷ h ∷ p ∷ drop 3 rest)
-three_set front [] n t h p e many = absurd (omega arith)
-three_set front (x ∷ []) n t h p e many = absurd (omega arith)
-three_set front (x ∷ y ∷ []) n t h p e many = absurd (omega arith)
-three_set front (x ∷ y ∷ z ∷ rest) n t h p e many =
-    let first : n - n ≡ 0 = omega arith in
-    let second : n + 1 - n ≡ 1 = omega arith in
-    let third : n + 2 - n ≡ 2 = omega arith in
-    ap (λ s. set (set s (n + 1) h) (n + 2) p) (set-append_right front (x ∷ y ∷ z ∷ rest) n n t e (omega arith) ∙ ap (λ k. front ++ set (x ∷ y ∷ z ∷ rest) k t) first)
-    ∙ ap (λ s. set s (n + 2) p) (set-append_right front (t ∷ y ∷ z ∷ rest) n (n + 1) h e (omega arith) ∙ ap (λ k. front ++ set (t ∷ y ∷ z ∷ rest) k h) second)
-    ∙ set-append_right front (t ∷ h ∷ z ∷ rest) n (n + 2) p e (omega arith)
-    ∙ ap (λ k. front ++ set (t ∷ h ∷ z ∷ rest) k p) third
-
--- the numbers that a line with n columns shows, at the front of a longer table
-pub front_shown : (ytd : Bool) (u : Usage) (rest : List ℕ) (n : ℕ) → length u.columns ≡ n → 3 ≤ length rest → take (figure_count ytd n) (set (set (set (u.columns ++ rest) n (sum u.columns)) (n + 1) u.html) (n + 2) u.pdf) ≡ shown_numbers ytd u
-front_shown true u rest n e many =
-    ap (take (n + 3)) (three_set u.columns rest n (sum u.columns) u.html u.pdf e many)
-    ∙ ap (λ k. take (k + 3) (u.columns ++ (sum u.columns ∷ u.html ∷ u.pdf ∷ drop 3 rest))) (sym e)
-    ∙ take-append-add u.columns (sum u.columns ∷ u.html ∷ u.pdf ∷ drop 3 rest) 3
-front_shown false u rest n e many =
-    ap (take n) (three_set u.columns rest n (sum u.columns) u.html u.pdf e many)
-    ∙ take_at u.columns (sum u.columns ∷ u.html ∷ u.pdf ∷ drop 3 rest) n e
-    ∙ sym (append-nil u.columns)

@@ -36,9 +36,6 @@ module _ (hs : List (List ℕ)) (i : ℕ) (h : i < length hs) where
   pub heading_wrong : (ytd : Bool) (p : Place) (f : LineFault) → Err f ≡ word_at (get_or hs i []) (not ytd && eqb (i + 1) (length hs)) p → Err f ≡ words_at (drop i hs ++ ytd_headings ytd) p
   heading_wrong ytd p f e = ap (λ r. and_then r (λ x. words_at (drop (i + 1) hs ++ ytd_headings ytd) x.1)) e ∙ sym (turn ytd p)
 
-pub headings_read : (hs : List (List ℕ)) (i : ℕ) (ytd : Bool) (p : Place) → length hs ≤ i → words_at (ytd_headings ytd) p ≡ words_at (drop i hs ++ ytd_headings ytd) p
-headings_read hs i ytd p h = sym (at_drop_all (λ ws. words_at (ws ++ ytd_headings ytd) p) hs i h)
-
 -- the labels before at least one heading
 pub labels_before : (r : Result (Unit {0} × Place) LineFault) (p : Place) (hs more : List (List ℕ)) → 1 ≤ length hs → ((w : List ℕ) (ws : List (List ℕ)) → and_then r (λ x. words_at (w ∷ ws) x.1) ≡ words_at (label_words ++ (w ∷ ws)) p) → and_then r (λ x. words_at (hs ++ more) x.1) ≡ words_at (label_words ++ (hs ++ more)) p
 labels_before r p [] more some labels = absurd (omega arith)

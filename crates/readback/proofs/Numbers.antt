@@ -16,10 +16,6 @@ pub then_assoc : {A B C E : Type 0} (r : Result A E) (f : A → Result B E) (g :
 then_assoc (Ok x) f g = refl
 then_assoc (Err e) f g = refl
 
-onto_none : (r : Result (List ℕ × Place) LineFault) → and_then r (onto []) ≡ r
-onto_none (Ok x) = refl
-onto_none (Err e) = refl
-
 -- the next of k numbers is the last where no other is left
 pub none_left : (k i : ℕ) → i < k → eqb (k - (i + 1)) 0 ≡ eqb (i + 1) k
 none_left k i h =
@@ -45,9 +41,6 @@ module _ (ends : Bool) (k i : ℕ) (h : i < k) (p : Place) (xs : List ℕ) where
 
 pub numbers_more : (ends : Bool) (k i : ℕ) → i < k → (p q : Place) (row : List ℕ) (n : ℕ) → i < length row → number_at (ends && eqb (i + 1) k) p ≡ Ok (n, q) → and_then (numbers_at ends (k - (i + 1)) q) (onto (take (i + 1) (set row i n))) ≡ and_then (numbers_at ends (k - i) p) (onto (take i row))
 numbers_more ends k i h p q row n l z = sym (then ends k i h p (take i row) q n z ∙ ap (λ xs. and_then (numbers_at ends (k - (i + 1)) q) (onto xs)) (sym (take_more_set row i n l)))
-
-pub numbers_start : (ends : Bool) (k : ℕ) (p : Place) (row : List ℕ) → and_then (numbers_at ends (k - 0) p) (onto (take 0 row)) ≡ numbers_at ends k p
-numbers_start ends k p row = let z : k - 0 ≡ k = omega arith in ap (λ m. and_then (numbers_at ends m p) (onto [])) z ∙ onto_none (numbers_at ends k p)
 
 pub numbers_end : (ends : Bool) (k i : ℕ) (p : Place) (row : List ℕ) → k ≤ i → length row ≡ k → and_then (numbers_at ends (k - i) p) (onto (take i row)) ≡ Ok (row, p)
 numbers_end ends k i p row h l =

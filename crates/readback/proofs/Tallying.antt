@@ -12,14 +12,6 @@ zeros = 0 ∷ 0 ∷ 0 ∷ 0 ∷ 0 ∷ 0 ∷ 0 ∷ 0 ∷ 0 ∷ 0 ∷ 0 ∷ 0 ∷ 
 pub take_zeros : (n : ℕ) → n ≤ 12 → take n zeros ≡ replicate n 0
 take_zeros n h = take-replicate n 12 0 h
 
-get_d_replicate : (m i x : ℕ) → get_or (replicate m x) i x ≡ x
-get_d_replicate zero i x = refl
-get_d_replicate (suc m) zero x = refl
-get_d_replicate (suc m) (suc i) x = get_d_replicate m i x
-
-pub zeros_low : (i : ℕ) → get_or zeros i 0 ≤ 0
-zeros_low i = let e : get_or zeros i 0 ≡ 0 = get_d_replicate 12 i 0 in omega arith
-
 pub added_push : (xs ns : List ℕ) (x n : ℕ) → length xs ≡ length ns → add_each (xs ++ (x ∷ [])) (ns ++ (n ∷ [])) ≡ add_each xs ns ++ ((x + n) ∷ [])
 added_push [] [] x n e = refl
 added_push [] (m ∷ ns) x n e = absurd (omega arith)
@@ -32,9 +24,6 @@ pub record AddedTo (cs ns : List ℕ) (i : ℕ) (new : List ℕ) : Type 0 where
   pub front : take i new ≡ add_each (take i cs) (take i ns)
   pub back : (j : ℕ) → i ≤ j → get_or new j 0 ≡ get_or cs j 0
   pub low : (j : ℕ) → get_or new j 0 ≤ get_or cs j 0 + 4294967296
-
-pub none_added : (cs ns : List ℕ) → AddedTo cs ns 0 cs
-none_added cs ns = record { long = refl; front = refl; back = λ j h. refl; low = λ j. omega arith }
 
 module _ (cs ns new : List ℕ) (i : ℕ) (c : i < length cs) (n : i < length ns) (m : get_or ns i 0 < 4294967296) (h : AddedTo cs ns i new) where
   sum_here : get_or new i 0 + get_or ns i 0 ≡ get_or cs i 0 + get_or ns i 0
@@ -68,10 +57,3 @@ sum_low b (suc n) (x ∷ xs) low =
     let all = sum_by-cons (λ k. k) x (take n xs) in
     let more = suc-mul n b in
     omega arith
-
--- once all numbers are added
-pub all_added : (cs ns new : List ℕ) (i : ℕ) → i ≡ length ns → AddedTo cs ns i new → take (length ns) new ≡ add_each (take (length ns) cs) ns
-all_added cs ns new i e h =
-    ap (λ k. take k new) (sym e)
-    ∙ h.front
-    ∙ (λ j. add_each (take (e j) cs) (take_all i ns (omega arith) j))

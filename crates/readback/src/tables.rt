@@ -33,7 +33,7 @@ impl<'a> LentTables<'_, 'a> {
         !scheme.has_ytd() || self.ytd.len() >= MOST_TITLES * 2
     }
 
-    /// Writes what a title's line says besides the numbers of its columns.
+    /// Writes what the line of the title with the number `at` says besides the numbers of its columns.
     pub(crate) fn put(&mut self, at: usize, line: &TitleLine<'a>)
         requires title { at < length self.old.titles.now }
         requires year { is_some line.now.year ≡ true → at * 2 + 1 < length self.old.ytd.now }

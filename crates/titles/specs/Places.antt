@@ -1,4 +1,4 @@
--- The first byte that may not stand where it does.
+-- The first byte that may not stand where it does, and a granted answer turned into another.
 use Rattle.std.specs.Prelude.{ℕ, ◌+◌, Bool, cond, List, [], ◌∷◌, Some, None, Ok, Err, Option, Result}
 
 -- the first place, counted from i, whose byte may not stand there

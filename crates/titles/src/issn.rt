@@ -15,7 +15,7 @@ const CHECK_PLACE: usize = 8;
 
 /// An ISSN, as it is written: four digits, a hyphen, three digits and a check sign.
 ///
-/// Only `read_issn` makes one.
+/// Only `read_issn` makes one, and `try_from` by it.
 #[derive(Clone, Copy, Debug, PartialEq, Eq)]
 pub struct Issn {
     bytes: [u8; 9],
