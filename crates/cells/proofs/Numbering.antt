@@ -1,17 +1,18 @@
--- A number is what the library reads, behind two tests, and what is read is how the number is written.
-use Rattle.std.proofs.Common.{◌≡◌, ℕ, ◌^◌, ◌<◌, ◌≤◌, true, false, eqb, leb, List, [], ◌∷◌, length, get_or, Some, None, Ok, Err, MatchResult, decimal, Result, sym, refl, ap, ◌∙◌, subst, ⊎_elim, arith, rules}
-use Rattle.std.proofs.lemmas.Fmt.{IsAscii-from_digits, decimal_digit, decimal_nonempty, decimal-digits_value, digits_decimal, first_decimal, digits_value-decimal}
-use Rattle.std.proofs.lemmas.Str.{IsUtf8-from_ascii}
-use Rattle.std.proofs.lemmas.Str.Parse.{IsNumeralModel, numerals_by_fold, parse_plain}
-use Rattle.std.proofs.lemmas.Bool.{cases_Bool, cases_eq, cases_lt}
+-- A number is read digit by digit, and what is read is how the number is written.
+use Rattle.std.proofs.Common.{◌≡◌, ℕ, ◌+◌, ◌-◌, ◌*◌, ◌^◌, ◌<◌, ◌≤◌, true, false, ◌&&◌, List, [], ◌∷◌, length, get_or, drop, Some, None, decimal, sym, refl, ap, ◌∙◌, ⊎_elim, arith, rules}
+use Rattle.std.proofs.lemmas.Fmt.{decimal_digit, decimal_nonempty, decimal-digits_value, digits_decimal, first_decimal, digits_value-decimal}
+use Rattle.std.proofs.lemmas.List.{at_drop_all, at_drop_more}
+use Rattle.std.proofs.lemmas.Str.Parse.{IsNumeralModel, numerals_by_fold}
+use Rattle.std.proofs.lemmas.Bool.{and_left, cases_eq}
 use Rattle.std.proofs.lemmas.Bool.Decides.{nat_tests}
-use Rattle.std.specs.Bool.{then_some}
-use Rattle.std.specs.List.{starts_with}
-use Rattle.std.specs.Result.{result_ok}
-use Rattle.std.specs.Str.{IsUtf8, all_ascii_digits}
-use Rattle.std.specs.Str.Parse.{ParsesUnsigned}
+use Rattle.std.specs.Char.{is_ascii_digit}
+use Rattle.std.specs.Str.{all_ascii_digits}
 use Rattle.cells.specs.Numbers.{number_of, plain, read_on}
-use Rattle.cells.proofs.Granted.{some_same}
+
+-- what is read on is no less
+grows : (n : ℕ) (bs : List ℕ) → n ≤ read_on n bs
+grows n [] = omega arith
+grows n (b ∷ bs) = let more = grows (n * 10 + (b - 48)) bs in omega arith
 
 module _ (bs : List ℕ) where
   not_digits : all_ascii_digits bs ≡ false → None ≡ number_of bs
@@ -23,6 +24,45 @@ module _ (bs : List ℕ) where
   accepted : plain bs ≡ true → all_ascii_digits bs ≡ true → read_on 0 bs ≤ 1000000000 → Some (read_on 0 bs) ≡ number_of bs
   accepted p d l = grind (arith, nat_tests)
 
+  -- where the number n is read from the first i bytes, and what is left gives the whole
+  module _ (i n : ℕ) (digits : all_ascii_digits (drop i bs) ≡ all_ascii_digits bs) (value : read_on n (drop i bs) ≡ read_on 0 bs) where
+    module _ (before : i < length bs) where
+      abbrev here : ℕ
+      here = get_or bs i 0
+
+      abbrev later : List ℕ
+      later = drop (i + 1) bs
+
+      digits_here : all_ascii_digits bs ≡ (is_ascii_digit here && all_ascii_digits later)
+      digits_here = sym digits ∙ at_drop_more all_ascii_digits bs i 0 before
+
+      pub digits_more : is_ascii_digit here ≡ true → all_ascii_digits later ≡ all_ascii_digits bs
+      digits_more e = sym (digits_here ∙ ap (λ t. t && all_ascii_digits later) e)
+
+      pub value_more : read_on (n * 10 + (here - 48)) later ≡ read_on 0 bs
+      value_more = sym (at_drop_more (read_on n) bs i 0 before) ∙ value
+
+      pub digit_missing : is_ascii_digit here ≡ false → None ≡ number_of bs
+      digit_missing e = not_digits (digits_here ∙ and_left (is_ascii_digit here) (all_ascii_digits later) e)
+
+      pub high_already : 100000000 < n → None ≡ number_of bs
+      high_already high =
+          let more = grows (n * 10 + (here - 48)) later in
+          let is = value_more in
+          not_low (omega arith)
+
+    module _ (past : length bs ≤ i) where
+      all_read : n ≡ read_on 0 bs
+      all_read = sym (at_drop_all (read_on n) bs i past) ∙ value
+
+      pub high_in_all : 1000000000 < n → None ≡ number_of bs
+      high_in_all high = let is = all_read in not_low (omega arith)
+
+      pub read_all : plain bs ≡ true → n ≤ 1000000000 → Some n ≡ number_of bs
+      read_all p low =
+          let is = all_read in
+          ap (λ x. Some x) is ∙ accepted p (sym digits ∙ at_drop_all all_ascii_digits bs i past) (omega arith)
+
 -- the definition's own words for digits and their value
 own : IsNumeralModel (λ ds. all_ascii_digits ds ≡ true) (read_on 0)
 own = numerals_by_fold _ (search rules) read_on (search rules)
@@ -31,38 +71,6 @@ own = numerals_by_fold _ (search rules) read_on (search rules)
 plain_some : (bs : List ℕ) → plain bs ≡ true → 0 < length bs
 plain_some [] e = cc
 plain_some (b ∷ bs) e = omega arith
-
--- a plus sign in front
-no_plus : (bs : List ℕ) → starts_with eqb bs (43 ∷ []) ≡ false → get_or bs 0 0 ≡ 43 → ⊥
-no_plus [] e z = absurd (omega arith)
-no_plus (b ∷ bs) e z = grind (arith, nat_tests)
-
--- what the library reads as a number of 32 bits, behind the two tests
-module _ {T E : Type 0} (now : T → List ℕ) (bs : List ℕ) (Told : E → Type 0) where
-  pub not_utf8 : (r : Result T E) → MatchResult r (λ s. (now s ≡ bs) × IsUtf8 bs) (λ e. ¬ (IsUtf8 bs) × Told e) → None ≡ result_ok r → None ≡ number_of bs
-  not_utf8 (Ok x) cases e = cc
-  not_utf8 (Err x) cases e =
-      ⊎_elim (λ yes. absurd (cases.0 (IsUtf8-from_ascii bs (IsAscii-from_digits bs (own.to bs yes))))) (not_digits bs) (cases_Bool (all_ascii_digits bs))
-
-  pub text_of : (r : Result T E) (x : T) → MatchResult r (λ s. (now s ≡ bs) × IsUtf8 bs) (λ e. ¬ (IsUtf8 bs) × Told e) → Some x ≡ result_ok r → now x ≡ bs
-  text_of (Ok y) x cases e = grind arith
-  text_of (Err y) x cases e = cc
-
-module _ {E : Type 0} (bs text : List ℕ) (same : text ≡ bs) (p : plain bs ≡ true) (sign : starts_with eqb bs (43 ∷ []) ≡ false) where
-  pub unparsed : (r : Result ℕ E) → ParsesUnsigned 32 10 text r → None ≡ result_ok r → None ≡ number_of bs
-  unparsed (Ok x) parses e = cc
-  unparsed (Err x) parses e =
-      let none = parse_plain own 32 bs (Err x) (subst (λ t. ParsesUnsigned 32 10 t (Err x)) same parses) (no_plus bs sign) in
-      ⊎_elim
-      (λ yes. ⊎_elim (λ low. absurd (none (yes, plain_some bs p, low))) (λ high. not_low bs (omega arith)) (cases_lt (read_on 0 bs) (2 ^ 32)))
-      (not_digits bs) (cases_Bool (all_ascii_digits bs))
-
-  pub parsed : (r : Result ℕ E) (n : ℕ) → ParsesUnsigned 32 10 text r → Some n ≡ result_ok r → then_some (leb n 1000000000) n ≡ number_of bs
-  parsed (Err x) n parses e = cc
-  parsed (Ok x) n parses e =
-      let known = parse_plain own {E = E} 32 bs (Ok x) (subst (λ t. ParsesUnsigned {E = E} 32 10 t (Ok x)) same parses) (no_plus bs sign) in
-      let is : n ≡ read_on 0 bs = some_same n x e ∙ known.1 in
-      grind (arith, nat_tests)
 
 -- a number that was read is how it is written
 plain_zero : (bs : List ℕ) → plain bs ≡ true → get_or bs 0 0 ≡ 48 → length bs ≡ 1

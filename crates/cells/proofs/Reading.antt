@@ -9,7 +9,11 @@ use Rattle.cells.specs.Places.{Place, behind}
 use Rattle.cells.proofs.Granted.{onward_ok}
 use Rattle.cells.proofs.Walking.{end_stands, ended_later, ended_with}
 
-behind_rest : (last : Bool) (p : Place) (rest : List ℕ) → (behind last p rest).rest ≡ rest
+-- the walk went over the text and its end, from p to q
+abbrev pub Passed : List ℕ → Bool → Place → Place → Type 0
+Passed text last p q = (p.rest ≡ text ++ (end_text last ++ q.rest)) × (q ≡ behind last p q.rest)
+
+pub behind_rest : (last : Bool) (p : Place) (rest : List ℕ) → (behind last p rest).rest ≡ rest
 behind_rest last p rest = grind arith
 
 -- a cut puts the bytes apart and loses none
@@ -57,7 +61,7 @@ pub record Judges {A : Type 0} (judge : List ℕ → Result A Cause) (Good : A �
   pub complete : (v : A) → Good v → (judge (text v) ≡ Ok v) × Clean (text v)
 
 module _ {A : Type 0} {judge : List ℕ → Result A Cause} {Good : A → Type 0} {text : A → List ℕ} (judges : Judges judge Good text) (last : Bool) where
-  pub cell_sound : (p : Place) (y : A × Place) → read_cell judge last p ≡ Ok y → Good y.0 × (p.rest ≡ text y.0 ++ (end_text last ++ y.1.rest))
+  pub cell_sound : (p : Place) (y : A × Place) → read_cell judge last p ≡ Ok y → Good y.0 × Passed (text y.0) last p y.1
   cell_sound p y granted =
       let read = onward_ok unended (cell_at p) (λ x. settle last (judge x.0.body) x.0 x.1) y granted in
       let at = found_cut p (cut p.rest) read.0 read.1 in
@@ -66,12 +70,11 @@ module _ {A : Type 0} {judge : List ℕ → Result A Cause} {Good : A → Type 0
       let good = judges.sound c.body y.0 is.0 in
       let parts = cut_sound p.rest c at.1 in
       let left = behind_rest c.last p c.rest in
-      (good.0, cc)
+      (good.0, (cc, cc))
 
-  pub cell_complete : (v : A) (p : Place) (rest : List ℕ) → Good v → p.rest ≡ text v ++ (end_text last ++ rest) → (q : Place) × (read_cell judge last p ≡ Ok (v, q)) × (q.rest ≡ rest)
+  pub cell_complete : (v : A) (p : Place) (rest : List ℕ) → Good v → p.rest ≡ text v ++ (end_text last ++ rest) → read_cell judge last p ≡ Ok (v, behind last p rest)
   cell_complete v p rest good stands =
       let granted = judges.complete v good in
       let cutting = cut_clean (text v) last rest granted.1 in
       let ends = flag_self last in
-      let read : read_cell judge last p ≡ Ok (v, behind last p rest) = grind arith in
-      (behind last p rest, read, behind_rest last p rest)
+      grind arith

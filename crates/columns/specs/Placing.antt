@@ -1,9 +1,10 @@
 -- What column a request has, as a relation.
 use Rattle.std.specs.Prelude.{◌≡◌, ℕ, zero, suc, ◌+◌, ◌-◌, ◌<◌, ◌≤◌, Bool, true, cond, ◌⊎◌, IfSome, Some, None, Option, ◌≢◌, nat_lt, refl}
-use Rattle.std.proofs.Common.{⊎_elim, sym, ◌∙◌, arith}
+use Rattle.std.proofs.Common.{⊎_elim, sym, ap, ◌∙◌, arith}
+use Rattle.std.proofs.lemmas.Bool.{cases_Bool, cond-false}
 use Rattle.std.proofs.lemmas.Bool.Decides.{nat_tests}
 use Rattle.std.specs.List.{find, range_with_len}
-use Rattle.columns.specs.Calendar.{year_start, month_start, InYear}
+use Rattle.columns.specs.Calendar.{year_start, month_start, InYear, InMonth}
 use Rattle.columns.specs.Places.{during, month_place, MonthColumn, publication_place, year_place, YearColumn}
 use Rattle.columns.specs.Days.{same_month}
 
@@ -52,6 +53,17 @@ module _ (y n t : ℕ) (known : (2000 ≤ y) × (y ≤ 2099)) (few : n ≤ 12) w
       at_none None e = refl
       at_none (Some m) e = let p = month_place_lem.only m e in h.given m p.0 p.1
 
+  -- the month of a request is its column
+  pub month_found : (m : ℕ) → m < n → InMonth y m t → MonthColumn y n t (Some m)
+  month_found m l i = record {
+    given = λ k h j. ap Some (same_month y m k t i.from i.to j.from j.to);
+    only = λ k e. let f : m ≡ k = cc in (omega arith, rw f at i);
+  }
+
+  -- a request of none of the months has no column
+  pub month_missing : ((m : ℕ) → m < n → InMonth y m t → ⊥) → MonthColumn y n t None
+  month_missing h = record { given = λ m l i. absurd (h m l i); only = λ m e. absurd (no_some m e) }
+
   pub month_below : IfSome (month_place y n t) (λ c. c < n)
   month_below = at (month_place y n t) refl
     where
@@ -87,6 +99,10 @@ module _ (y p : ℕ) where
     -- a request made in the year has the column of its year of publication
     pub year_within : InYear y t → year_place y p t q ≡ placed
     year_within i = grind (arith, nat_tests)
+
+    -- and any other has none
+    pub year_without : (InYear y t → ⊥) → year_place y p t q ≡ None
+    year_without h = ⊎_elim (λ t. absurd (h (made_in t))) (λ t. cond-false in_time placed None t) (cases_Bool in_time)
 
     made_if : (k : ℕ) → year_place y p t q ≡ Some k → InYear y t
     made_if k e = made_in (grind arith)

@@ -2,7 +2,6 @@
 #![tactic(auto)]
 
 mod calendar;
-mod heading;
 mod month_scheme;
 mod period;
 mod scheme;

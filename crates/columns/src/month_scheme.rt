@@ -1,5 +1,5 @@
 //! Columns by month of the request.
-ghost use Rattle.std.specs.Prelude.{◌≡◌, ℕ, ◌<◌, ◌≤◌, map, length, take, IfOk, IfErr};
+ghost use Rattle.std.specs.Prelude.{◌≡◌, ℕ, ◌<◌, ◌≤◌, ◌++◌, map, length, take, codes, IfOk, IfErr};
 ghost use Rattle.std.specs.Result.{result_err};
 ghost use Rattle.columns.specs.Calendar.{names};
 ghost use Rattle.columns.specs.Layouts.{month_heading, month_layout};
@@ -8,8 +8,7 @@ ghost use Rattle.columns.specs.Places.{MonthColumn, month_place};
 ghost use Rattle.columns.specs.Months.{month_sound, month_length};
 ghost use Rattle.columns.specs.Placing.{month_below};
 
-use crate::calendar::{NAMES, month_in};
-use crate::heading::dated;
+use crate::calendar::{NAMES, month_in, year_digits};
 use crate::period::PeriodRefusal;
 use crate::scheme::ColumnScheme;
 use records::Request;
@@ -55,19 +54,21 @@ impl MonthScheme {
 fn month_headings(year: u16) -> [[u8; 8]; 12]
     ensures { result ≡ map (month_heading year) names }
 {
+    let digits = year_digits(year);
     NAMES.map(
         |name|
-            ensures { result ≡ month_heading year name }
-        { month_heading(name, year) },
+            ensures { result ≡ name ++ (codes "-" ++ digits) }
+        { month_heading(name, digits) },
     )
 }
 
-/// The heading of one month.
-fn month_heading(name: [u8; 3], year: u16) -> [u8; 8]
-    ensures { result ≡ month_heading year name }
+/// The heading of one month, with the digits of its year.
+fn month_heading(name: [u8; 3], digits: [u8; 4]) -> [u8; 8]
+    ensures { result ≡ name ++ (codes "-" ++ digits) }
 {
     let [a, b, c] = name;
-    dated([a, b, c, b'-', 0, 0, 0, 0], year)
+    let [d, e, f, g] = digits;
+    [a, b, c, b'-', d, e, f, g]
 }
 
 impl ColumnScheme for MonthScheme {

@@ -9,8 +9,7 @@ ghost use Rattle.std.proofs.Common.{arith};
 ghost use Rattle.columns.specs.Years.{year_sound, year_length};
 ghost use Rattle.columns.specs.Placing.{year_below};
 
-use crate::calendar::month_in;
-use crate::heading::dated;
+use crate::calendar::{month_in, year_digits};
 use crate::period::PeriodRefusal;
 use crate::scheme::ColumnScheme;
 use records::Request;
@@ -86,15 +85,24 @@ fn recent_headings(year: u16) -> [[u8; 8]; 11]
         |back|
             requires { (back < 11) × (11 ≤ year) }
             ensures { result ≡ recent_heading (year - back) }
-        { dated(*b"YOP-yyyy", year - back as u16) },
+        { recent_heading(year - back as u16) },
     )
+}
+
+/// The heading of one year.
+fn recent_heading(year: u16) -> [u8; 8]
+    ensures { result ≡ recent_heading year }
+{
+    let [a, b, c, d] = year_digits(year);
+    [b'Y', b'O', b'P', b'-', a, b, c, d]
 }
 
 /// The heading of all years before a first one.
 fn earlier_heading(first: u16) -> [u8; 12]
     ensures { result ≡ earlier_heading first }
 {
-    dated(*b"YOP Pre-yyyy", first)
+    let [a, b, c, d] = year_digits(first);
+    [b'Y', b'O', b'P', b' ', b'P', b'r', b'e', b'-', a, b, c, d]
 }
 
 impl ColumnScheme for YearScheme {

@@ -5,14 +5,15 @@ use Rattle.reports.specs.Written.{line_text}
 use Rattle.cells.specs.declared.fault.Cause.{Cause}
 use Rattle.cells.specs.Cells.{end_text}
 use Rattle.cells.specs.Judged.{read_cell}
-use Rattle.cells.proofs.Reading.{Judges, cell_complete, cell_sound}
+use Rattle.cells.specs.Places.{behind}
+use Rattle.cells.proofs.Reading.{Judges, behind_rest, cell_complete, cell_sound}
 use Rattle.grammar.specs.Lines.{none}
 use Rattle.grammar.proofs.Spelling.{Anything, Spells}
 
 pub cell : {A : Type 0} {judge : List ℕ → Result A Cause} {Good : A → Type 0} {text : A → List ℕ} → Judges judge Good text → (last : Bool) → Spells (read_cell judge last) Anything Good (λ v. text v ++ end_text last)
 cell {text = text} judges last = record {
-  sound = λ p y h. let s = cell_sound judges last p y h in (tt, s.0, s.1 ∙ sym (append_assoc (text y.0) (end_text last) y.1.rest));
-  complete = λ v p m known good e. cell_complete judges last v p m good (e ∙ append_assoc (text v) (end_text last) m);
+  sound = λ p y h. let s = cell_sound judges last p y h in (tt, s.0, s.1.0 ∙ sym (append_assoc (text y.0) (end_text last) y.1.rest));
+  complete = λ v p m known good e. (behind last p m, cell_complete judges last v p m good (e ∙ append_assoc (text v) (end_text last) m), behind_rest last p m);
 }
 
 -- cells with their ends, the last of which ends the line where `ends` says so

@@ -14,6 +14,8 @@ use ledger::{Open, Refusal, Settled, Unopened, Unsettled};
 use records::{ReaderRule, Request, Source};
 
 /// Makes the call of a step with the tables that come, which are the ledger's own or do not fit.
+// Inlined at both its calls, so that the ledger is not moved once more for each step.
+#[inline(always)]
 fn make<R: ReaderRule, S: ColumnScheme, Src: Source>(
     ledger: Open<R, S>,
     waiting: &mut [Request],
