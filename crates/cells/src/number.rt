@@ -15,7 +15,7 @@ pub(crate) fn read_number(bytes: &[u8]) -> Option<u32>
         return None;
     }
     // Digit by digit, and no further than the first byte that is none: each cell of a file comes here, and the library's
-    // `parse`, which wants the whole cell to be UTF-8 first, takes two to four times as long.
+    // `parse`, which wants the whole cell to be UTF-8 first, takes three to four times as long.
     let mut number = 0u32;
     for byte in bytes {
         if !byte.is_ascii_digit() || number > HIGHEST / 10 {
